@@ -1,0 +1,4 @@
+// What every crate of the product shares: the refusals.
+pub mod refusal;
+
+pub use refusal::Refusal;
