@@ -1,3 +1,9 @@
 pub mod Tests
 pub mod Chart
 pub mod Property
+pub mod Runs
+pub mod Rules
+pub mod Lines
+pub mod Rounds
+pub mod Paths
+pub mod Laws
