@@ -1,0 +1,4 @@
+mod Laying
+mod Figures
+mod Pieces
+mod Telling

@@ -1,0 +1,8 @@
+// Charts as the checker asks them: the questions of a chart with their answers, and the charts there are, which are
+// counters, charts read from a file, pairs of charts, and lent charts.
+pub mod chart;
+pub mod counter;
+
+pub use chart::Chart;
+pub use counter::CounterChart;
+pub use counter::CounterIsChart;
