@@ -2,3 +2,4 @@ mod Laying
 mod Figures
 mod Pieces
 mod Telling
+pub mod Stacked
