@@ -5,3 +5,7 @@ pub mod Members
 pub mod Forms
 pub mod Steady
 pub mod Settled
+pub mod Verdicts
+pub mod Kept
+pub mod Places
+pub mod Entries
