@@ -9,3 +9,5 @@ pub mod Verdicts
 pub mod Kept
 pub mod Places
 pub mod Entries
+pub mod Consequences
+pub mod Meter
