@@ -1,0 +1,13 @@
+pub mod Over
+pub mod Chains
+pub mod Iterates
+pub mod Members
+pub mod Forms
+pub mod Steady
+pub mod Settled
+pub mod Verdicts
+pub mod Kept
+pub mod Places
+pub mod Entries
+pub mod Consequences
+pub mod Meter
