@@ -1,0 +1,4 @@
+pub mod PathsLists
+pub mod PathsReach
+pub mod PathsWalk
+pub mod PathsStay
