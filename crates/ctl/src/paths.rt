@@ -1,28 +1,27 @@
 // The laws of shown paths: each function's contract is one of them.
 ghost use Rattle.ctl.specs.PathLaws.{Shown-paths-follow-ways, Shown-paths-bear-out-their-answers, Shown-paths-are-shortest, Shown-paths-fit-the-chart, Shown-paths-take-first-ways};
-ghost use Rattle.ctl.specs.Laws.{Settled-sets-are-fixpoints, Settled-sets-hold-over-unending-runs};
 
 // A shown path starts at the mode, follows ways, and stays within the chart.
 pub fn shown_paths_follow_ways()
-    ensures { λ _. ⌜ (Settled-sets-are-fixpoints → Settled-sets-hold-over-unending-runs → Shown-paths-follow-ways) ⌝ }
+    ensures { λ _. ⌜ Shown-paths-follow-ways ⌝ }
 {}
 
 // A shown path bears its answer out, with the operands read over unending runs.
 pub fn shown_paths_bear_out_their_answers()
-    ensures { λ _. ⌜ (Settled-sets-are-fixpoints → Settled-sets-hold-over-unending-runs → Shown-paths-bear-out-their-answers) ⌝ }
+    ensures { λ _. ⌜ Shown-paths-bear-out-their-answers ⌝ }
 {}
 
 // Of all paths that reach the right operand, the one shown has the fewest modes.
 pub fn shown_paths_are_shortest()
-    ensures { λ _. ⌜ (Settled-sets-are-fixpoints → Settled-sets-hold-over-unending-runs → Shown-paths-are-shortest) ⌝ }
+    ensures { λ _. ⌜ Shown-paths-are-shortest ⌝ }
 {}
 
 // A path that reaches or stays has no more modes than the chart; a step has two.
 pub fn shown_paths_fit_the_chart()
-    ensures { λ _. ⌜ (Settled-sets-are-fixpoints → Settled-sets-hold-over-unending-runs → Shown-paths-fit-the-chart) ⌝ }
+    ensures { λ _. ⌜ Shown-paths-fit-the-chart ⌝ }
 {}
 
 // Which path is shown: each step is the first way out, in order, that serves.
 pub fn shown_paths_take_first_ways()
-    ensures { λ _. ⌜ (Settled-sets-are-fixpoints → Settled-sets-hold-over-unending-runs → Shown-paths-take-first-ways) ⌝ }
+    ensures { λ _. ⌜ Shown-paths-take-first-ways ⌝ }
 {}
