@@ -2,16 +2,21 @@
 use Prim.Native.Nat.{ℕ, _+_, _<_, _≤_}
 use mathlib.Core.Path.{_≡_}
 use mathlib.Core.Bool.{Bool, true, false}
-use mathlib.Core.List.{List}
+use mathlib.Core.List.{List, [], _∷_}
 use lib.ListN.{length, getD}
 use Rattle.std.specs.declared.option.Option.{Option}
 use Rattle.std.specs.declared.option.Option.the-variants.{Some, None}
 use Rattle.ctl.specs.Tests.{has}
-use Rattle.ctl.specs.Chart.{Meaning, size, degree, waysOf}
+use Rattle.ctl.specs.Chart.{Meaning, size, degree, waysOf, counter}
 use Rattle.ctl.specs.Runs.{Holds}
-use Rattle.ctl.specs.Rounds.{Progress, lineAt}
-use Rattle.ctl.specs.Paths.{Shape, none, step, reach, stay, shapeOf, shown, Leads, Bears}
+use Rattle.ctl.specs.Rounds.{Progress, lineAt, after}
+use Rattle.ctl.specs.Paths.{Shape, none, step, reach, stay, shapeOf, Shown, shown, Leads, Bears}
 use Rattle.ctl.specs.Laws.{Sound, lineProperty}
+use Rattle.ctl.specs.declared.rule.Quantifier.{Quantifier}
+use Rattle.ctl.specs.declared.rule.Quantifier.the-variants.{Exists, Forall}
+use Rattle.ctl.specs.declared.rule.Temporal.the-variants.{Until, Release}
+use Rattle.ctl.specs.declared.rule.Rule.{Rule}
+use Rattle.ctl.specs.declared.rule.Rule.the-variants.{Constant, Mark, Next, Path}
 
 -- an answer given to a question: yes says that it is so, no that it is not
 abbrev pub Answers : Bool → Type 0 → Type 0
@@ -115,3 +120,18 @@ Shown-paths-take-first-ways =
     (μ : Meaning) (p : Progress) (i m : ℕ)
     → Showable μ p i m
     → Described μ (Answered μ p (answerAt p i m)) i (shapeAt p i m) (shown μ p i m .modes) (shown μ p i m .returns)
+
+-- worked on the counter of length 4, at mode 0: some run comes to the last mode, by all four modes; not every run does,
+-- since the one by 0, 1 and 2 may return to 0; not every way out leads to a mode that is not the first
+abbrev pub counterLines : List Rule
+counterLines =
+    Constant true ∷ (Mark true 1 ∷ (Path Until Exists 0 1 ∷ (Path Until Forall 0 1 ∷ (Mark false 0 ∷ (Next Forall 4 ∷ [])))))
+
+abbrev pub ofCounter : ℕ → Shown
+ofCounter i = shown (counter 4) (after (counter 4) counterLines 14) i 0
+
+abbrev pub The-counter-shows-its-paths : Type 0
+The-counter-shows-its-paths =
+    (ofCounter 2 ≡ record { modes = 0 ∷ (1 ∷ (2 ∷ (3 ∷ []))); returns = None })
+    × ((ofCounter 3 ≡ record { modes = 0 ∷ (1 ∷ (2 ∷ [])); returns = Some 0 })
+    × (ofCounter 5 ≡ record { modes = 0 ∷ (0 ∷ []); returns = None }))
