@@ -10,4 +10,5 @@ pub mod PathsReach
 pub mod PathsWalk
 pub mod PathsStay
 pub mod PathsFacts
+pub mod PathsProve
 pub mod PathsLaws

@@ -1,25 +1,22 @@
 -- What a line's fixpoint says for the shape of path that its answer has.
-use Prim.Native.Nat.{ℕ, zero, suc, _+_, _<_, _≤_}
+use Prim.Native.Nat.{ℕ, zero, suc, _<_, _≤_}
 use mathlib.Core.Path.{_≡_, refl, sym, ap, _∙_, subst}
-use mathlib.Core.Bool.{Bool, true, false, not, cond, _&&_, _||_}
+use mathlib.Core.Bool.{Bool, true, false, not, _&&_, _||_}
 use mathlib.Core.List.{List, [], _∷_, map}
-use mathlib.Core.Logic.{_⊎_, inl, inr}
+use mathlib.Core.Logic.{inl, inr}
 use native.Mathlib.Omega.{arith}
 use lib.Dec.{eqb, ltb}
 use lib.ListN.{length, getD}
 use Rattle.std.specs.Iters.{counting}
 use Rattle.std.proofs.shelf.Counted.{getD-map-counting, length-map-counting}
 use Rattle.std.proofs.shelf.Lists.{getD-past}
-use Rattle.std.proofs.shelf.Tests.{cases-lt, cases-bool, lt-ltb, le-ltb, ltb-true, eq-eqb, eqb-true, not-true, not-from-false, or-left, or-right, and-from}
+use Rattle.std.proofs.shelf.Tests.{cases-lt, cases-bool, lt-ltb, ltb-true, eq-eqb, eqb-true, not-true, not-from-false, or-left, or-right, and-from}
 use Rattle.ctl.specs.Tests.{any, all, has}
 use Rattle.ctl.specs.Chart.{Meaning, size, waysOf}
 use Rattle.ctl.specs.Rules.{consequences, yields, bodies}
 use Rattle.ctl.specs.Paths.{Shape, none, step, reach, stay, shapeOf, reads}
 use Rattle.ctl.specs.Laws.{Within, Extreme, Fixpoint}
-use Rattle.ctl.specs.declared.rule.Quantifier.{Quantifier}
 use Rattle.ctl.specs.declared.rule.Quantifier.the-variants.{Exists, Forall}
-use Rattle.ctl.specs.declared.rule.Connective.{Connective}
-use Rattle.ctl.specs.declared.rule.Temporal.{Temporal}
 use Rattle.ctl.specs.declared.rule.Temporal.the-variants.{Until, Release}
 use Rattle.ctl.specs.declared.rule.Rule.{Rule}
 use Rattle.ctl.specs.declared.rule.Rule.the-variants.{Constant, Mark, Join, Next, Path}
@@ -40,14 +37,14 @@ every-from f [] h = refl
 every-from f (w ∷ ws) h = and-from (f w) (all f ws) (h 0 (omega arith)) (every-from f ws (λ p l. h (suc p) (omega arith)))
 
 -- the rules' bodies as tests
-next-body : (w : Bool) → ((w && true) || false) ≡ w
+pub next-body : (w : Bool) → ((w && true) || false) ≡ w
 next-body true = refl
 next-body false = refl
 
-abbrev untilBody : Bool → Bool → Bool → Bool
+abbrev pub untilBody : Bool → Bool → Bool → Bool
 untilBody p q w = (q && true) || ((p && (w && true)) || false)
 
-abbrev releaseBody : Bool → Bool → Bool → Bool
+abbrev pub releaseBody : Bool → Bool → Bool → Bool
 releaseBody p q w = (p && (q && true)) || ((q && (w && true)) || false)
 
 until-yes : (p q w : Bool) → untilBody p q w ≡ true → (q || (p && w)) ≡ true
@@ -84,16 +81,16 @@ release-from false true false false h u = u refl
 
 module _ (μ : Meaning) (f : ℕ → Bool) where
   -- the set of the modes that pass
-  abbrev those : List Bool
+  abbrev pub those : List Bool
   those = map f (counting 0 (size μ))
 
-  has-those : (m : ℕ) → m < size μ → has those m ≡ f m
+  pub has-those : (m : ℕ) → m < size μ → has those m ≡ f m
   has-those m l = getD-map-counting f 0 (size μ) m m false l (omega arith)
 
   those-past : (m : ℕ) → size μ ≤ m → has those m ≡ false
   those-past m l = getD-past those m false (omega (arith, length-map-counting f 0 (size μ)))
 
-  those-within : (m : ℕ) → has those m ≡ true → m < size μ
+  pub those-within : (m : ℕ) → has those m ≡ true → m < size μ
   those-within m t = elim (cases-lt m (size μ)) [ inl l ↦ l | inr l ↦ not-both (has those m) t (those-past m l) ]
 
 module _ (μ : Meaning) (sets : ℕ → List Bool) (s : List Bool) (answer : Bool) where
@@ -112,21 +109,21 @@ module _ (μ : Meaning) (sets : ℕ → List Bool) (s : List Bool) (answer : Boo
       (x : ℕ) → x < size μ → own x ≡ true → (operand b x ≡ true) × ((operand a x && operand b x) ≡ false → any own (waysOf μ x) ≡ true)
 
 module _ (μ : Meaning) (closed : Closed μ) (sets : List (List Bool)) (s : List Bool) where
-  abbrev at : ℕ → List Bool
+  abbrev pub at : ℕ → List Bool
   at a = getD sets a []
 
-  abbrev round : Rule → List Bool → ℕ → Bool
+  abbrev pub round : Rule → List Bool → ℕ → Bool
   round r t m = yields μ sets t (bodies r) m
 
-  yielded : (r : Rule) (t : List Bool) (m : ℕ) → m < size μ → has (consequences μ sets r t) m ≡ round r t m
+  pub yielded : (r : Rule) (t : List Bool) (m : ℕ) → m < size μ → has (consequences μ sets r t) m ≡ round r t m
   unfolding consequences
   yielded r t m l = has-those μ (yields μ sets t (bodies r)) m l
 
-  yielded-within : (r : Rule) (t : List Bool) (m : ℕ) → has (consequences μ sets r t) m ≡ true → m < size μ
+  pub yielded-within : (r : Rule) (t : List Bool) (m : ℕ) → has (consequences μ sets r t) m ≡ true → m < size μ
   unfolding consequences
   yielded-within r t m h = those-within μ (yields μ sets t (bodies r)) m h
 
-  settled : (r : Rule) → consequences μ sets r s ≡ s → (m : ℕ) → m < size μ → round r s m ≡ has s m
+  pub settled : (r : Rule) → consequences μ sets r s ≡ s → (m : ℕ) → m < size μ → round r s m ≡ has s m
   settled r e m l = sym (yielded r s m l) ∙ ap (λ (t : List Bool). has t m) e
 
   -- an until that holds has a path

@@ -1,35 +1,33 @@
 -- The laws of shown paths, from the laws of settled sets.
-use Prim.Native.Nat.{ℕ, zero, suc, _+_, _<_, _≤_}
-use mathlib.Core.Path.{_≡_, refl, sym, ap, _∙_, subst, fun-ext}
-use mathlib.Core.Bool.{Bool, true, false, not, _&&_}
+use Prim.Native.Nat.{ℕ, zero, suc, _+_, _<_}
+use mathlib.Core.Path.{_≡_, refl, ap, subst, fun-ext}
+use mathlib.Core.Bool.{Bool, true, false, _&&_}
 use mathlib.Core.List.{List, [], _∷_, map}
-use mathlib.Core.Logic.{_⊎_, inl, inr}
+use mathlib.Core.Logic.{inl, inr}
 use native.Mathlib.Omega.{arith}
 use lib.ListN.{length, getD}
 use Rattle.std.specs.declared.option.Option.{Option}
 use Rattle.std.specs.declared.option.Option.the-variants.{Some, None}
 use Rattle.std.proofs.shelf.Lists.{getD-past, length-map}
 use Rattle.std.proofs.shelf.Tests.{cases-lt, cases-bool, not-true, not-from-false, and-parts, and-from}
-use Rattle.ctl.specs.Tests.{any, agrees, has}
-use Rattle.ctl.specs.Chart.{Meaning, Lawful, size, waysOf, degree}
-use Rattle.ctl.specs.Runs.{Way, Holds}
-use Rattle.ctl.specs.Lines.{noRule, Earlier, Ordered}
-use Rattle.ctl.specs.Rounds.{Line, Progress, noLine, lineAt, rulesOf, setsOf}
-use Rattle.ctl.specs.Paths.{Shape, none, step, reach, stay, shapeOf, Shown, firstWay, reads, staying, shownAs, shown, Leads, Closes, Bears}
-use Rattle.ctl.specs.Laws.{Sound, Fixpoint, lineProperty, Settled-sets-are-fixpoints, Settled-sets-hold-over-unending-runs}
-use Rattle.ctl.specs.PathLaws.{Answers, Answered, answerAt, shapeAt, Showable, Fits, Shortest, Returning, Described, Shown-paths-follow-ways, Shown-paths-bear-out-their-answers, Shown-paths-are-shortest, Shown-paths-fit-the-chart, Shown-paths-take-first-ways}
-use Rattle.ctl.specs.declared.rule.Quantifier.{Quantifier}
+use Rattle.ctl.specs.Tests.{agrees, has}
+use Rattle.ctl.specs.Chart.{Meaning, Lawful, size, waysOf}
+use Rattle.ctl.specs.Runs.{Way}
+use Rattle.ctl.specs.Lines.{Earlier}
+use Rattle.ctl.specs.Rounds.{Line, Progress, noLine, lineAt, setsOf}
+use Rattle.ctl.specs.Paths.{Shape, none, step, reach, stay, shapeOf, Shown, firstWay, reads, reaching, staying, shownAs, shown, Leads, Closes, Bears}
+use Rattle.ctl.specs.Laws.{Sound, Settled-sets-are-fixpoints, Settled-sets-hold-over-unending-runs}
+use Rattle.ctl.specs.PathLaws.{Answered, answerAt, shapeAt, Showable, First, Fits, Shortest, Returning, Described, Shown-paths-follow-ways, Shown-paths-bear-out-their-answers, Shown-paths-are-shortest, Shown-paths-fit-the-chart, Shown-paths-take-first-ways, Paths-prove-what-they-bear-out}
 use Rattle.ctl.specs.declared.rule.Quantifier.the-variants.{Exists, Forall}
-use Rattle.ctl.specs.declared.rule.Connective.{Connective}
-use Rattle.ctl.specs.declared.rule.Temporal.{Temporal}
 use Rattle.ctl.specs.declared.rule.Temporal.the-variants.{Until, Release}
 use Rattle.ctl.specs.declared.rule.Rule.{Rule}
 use Rattle.ctl.specs.declared.rule.Rule.the-variants.{Constant, Mark, Join, Next, Path}
-use Rattle.ctl.proofs.PathsLists.{not-both, FirstAt, first-of}
-use Rattle.ctl.proofs.PathsReach.{Closed, num-le}
-use Rattle.ctl.proofs.PathsWalk.{way-of, first-from, length-walk, path-inside, path-leads, path-bears, no-fewer, path-first}
+use Rattle.ctl.proofs.PathsLists.{not-both, FirstAt, first-of, tally-le, member}
+use Rattle.ctl.proofs.PathsReach.{Closed, number, num-le}
+use Rattle.ctl.proofs.PathsWalk.{counts, way-of, first-from, length-walk, path-inside, path-leads, path-bears, no-fewer, path-first}
 use Rattle.ctl.proofs.PathsStay.{Goes, Held, Ended, Stayed, stays-from}
-use Rattle.ctl.proofs.PathsFacts.{Facts, operand, own, facts}
+use Rattle.ctl.proofs.PathsProve.{Enough, suffices, prove-step, prove-stay, numbered-own}
+use Rattle.ctl.proofs.PathsFacts.{Facts, facts}
 
 getD-map-any : {X Y : Type 0} (f : X → Y) (xs : List X) (i : ℕ) (d : X) → getD (map f xs) i (f d) ≡ f (getD xs i d)
 getD-map-any f [] i d = refl
@@ -119,12 +117,12 @@ module _ (μ : Meaning) (closed : Closed μ) (sets : ℕ → List Bool) (answer 
       → Decides a
       → Decides b
       → Facts μ sets (sets i) answer (reach a b)
-      → Right μ R i m (reach a b) (Rattle.ctl.specs.Paths.reaching μ (reads answer (sets a)) (reads answer (sets b)) m)
+      → Right μ R i m (reach a b) (reaching μ (reads answer (sets a)) (reads answer (sets b)) m)
   right-reach a b da db f =
       let P = reads answer (sets a) in
       let Q = reads answer (sets b) in
       let l = f m inn there in
-      let len = length-walk μ P Q (Rattle.ctl.proofs.PathsReach.number μ P Q (size μ) m) m in
+      let len = length-walk μ P Q (number μ P Q (size μ) m) m in
       record {
         leads = path-leads μ closed P Q R a b (da .0) (da .1) (db .0) (db .1) m l;
         within = path-inside μ closed P Q R a b (da .0) (da .1) (db .0) (db .1) m;
@@ -151,7 +149,7 @@ module _ (μ : Meaning) (closed : Closed μ) (sets : ℕ → List Bool) (answer 
         → z < size μ
         → inside y ≡ true
         → Goes μ closed ending inside y z
-        → (R a y → ⊥) × Rattle.ctl.specs.PathLaws.First μ (R i) y z
+        → (R a y → ⊥) × First μ (R i) y z
     goes-first y z l k t g = (lacks y l t (g .0), first-from μ closed inside (R i) y z l (di .0 z k) (di .1) (g .1))
 
     closing : (xs : List ℕ) (o : Option ℕ) → Held μ closed ending inside m xs → Ended μ closed ending inside xs o → Closes μ (R a) xs o
@@ -172,7 +170,7 @@ module _ (μ : Meaning) (closed : Closed μ) (sets : ℕ → List Bool) (answer 
           within = h .within;
           bears = (λ j l. db .0 (getD xs j 0) (h .within j l) (f (getD xs j 0) (h .within j l) (h .same j l) .0), closing xs (s .returns) h (st .ended));
           shortest = tt;
-          fits = (h .leads .0, omega (arith, h .room, Rattle.ctl.proofs.PathsLists.tally-le (Rattle.ctl.proofs.PathsLists.member xs) (size μ)));
+          fits = (h .leads .0, omega (arith, h .room, tally-le (member xs) (size μ)));
           described = (
             λ j l. goes-first (getD xs j 0) (getD xs (j + 1) 0) (h .within j (omega arith)) (h .within (j + 1) l) (h .same j (omega arith)) (h .goes j l),
             (h .apart, returning xs (s .returns) h (st .ended)),
@@ -211,9 +209,6 @@ module _ (fixpoints : Settled-sets-are-fixpoints) (runs : Settled-sets-hold-over
         ]
 
     module _ (i m : ℕ) (settled : i < p .settled) (inn : m < size μ) where
-      abbrev answer : Bool
-      answer = answerAt p i m
-
       abbrev R : ℕ → ℕ → Type 0
       R = Answered μ p (answerAt p i m)
 
@@ -256,6 +251,50 @@ module _ (fixpoints : Settled-sets-are-fixpoints) (runs : Settled-sets-hold-over
             | inr l ↦ absurd (h (ap (λ (l : Line). shapeOf (l .rule) (answerAt p i m)) (getD-past (p .lines) i noLine l)))
           ]
 
+  module _ (μ : Meaning) (p : Progress) (i m : ℕ) (sound : Sound μ p) (settled : i < p .settled) (inn : m < size μ) (answer : Bool) (xs : List ℕ) (o : Option ℕ) (leads : Leads μ m xs) where
+    abbrev here : Closed μ
+    here = closed-of μ (sound .0)
+
+    abbrev members : ℕ → List Bool
+    members a = lineAt p a .members
+
+    abbrev S : ℕ → ℕ → Type 0
+    S = Answered μ p answer
+
+    reads-of : (a : ℕ) → a < p .settled → (x : ℕ) → x < size μ → S a x → reads answer (members a) x ≡ true
+    reads-of a l = read-from μ p sound answer a l
+
+    says-of : (a : ℕ) → a < p .settled → (x : ℕ) → x < size μ → reads answer (members a) x ≡ true → S a x
+    says-of a l = answered μ p sound answer a l
+
+    prove-reach : (a b : ℕ) → a < p .settled → b < p .settled → Enough μ members (members i) answer (reach a b) → Bears μ S (reach a b) xs o → reads answer (members i) m ≡ true
+    prove-reach a b la lb e h =
+        numbered-own μ here members (members i) answer a b e (length xs) m inn
+        (counts μ here (reads answer (members a)) (reads answer (members b)) S a b (says-of a la) (reads-of a la) (says-of b lb) (reads-of b lb) xs m inn
+        (leads, (h .0, (h .1 .0, refl))))
+
+    prove-shape : (sh : Shape) → Below i sh → Enough μ members (members i) answer sh → Bears μ S sh xs o → reads answer (members i) m ≡ true
+    prove-shape none l e h = absurd h
+    prove-shape (step a) l e h = prove-step μ here members (members i) answer m inn xs leads S a o (reads-of a (omega arith)) e h
+    prove-shape (reach a b) l e h = prove-reach a b (omega arith) (omega arith) e h
+    prove-shape (stay a b) l e h =
+        prove-stay μ here members (members i) answer m inn xs leads S a b o (reads-of a (omega arith)) (reads-of b (omega arith)) e h
+
+    enough-at : Enough μ members (members i) answer (shapeOf (lineAt p i .rule) answer)
+    enough-at =
+        subst (λ (g : ℕ → List Bool). Enough μ g (members i) answer (shapeOf (lineAt p i .rule) answer))
+        (fun-ext (λ a. getD-map-any (λ l. l .members) (p .lines) a noLine))
+        (suffices μ here (setsOf p) (members i) (lineAt p i .rule) answer (fixpoints μ p sound i settled))
+
+    proves : Bears μ S (shapeOf (lineAt p i .rule) answer) xs o → S i m
+    proves h =
+        elim (cases-lt i (length (p .lines))) [
+          | inl l ↦
+              says-of i settled m inn
+              (prove-shape (shapeOf (lineAt p i .rule) answer) (below i (lineAt p i .rule) answer (earlier μ p sound i m settled inn l)) enough-at h)
+          | inr l ↦ absurd (subst (λ (l : Line). Bears μ S (shapeOf (l .rule) answer) xs o) (getD-past (p .lines) i noLine l) h)
+        ]
+
   right : (μ : Meaning) (p : Progress) (i m : ℕ) → Showable μ p i m → Right μ (Answered μ p (answerAt p i m)) i m (shapeAt p i m) (shown μ p i m)
   right μ p i m h = right-shown μ p (h .0) i m (h .1 .0) (h .1 .1 .0) (h .1 .1 .1)
 
@@ -273,3 +312,6 @@ module _ (fixpoints : Settled-sets-are-fixpoints) (runs : Settled-sets-hold-over
 
   pub take-first-ways : Shown-paths-take-first-ways
   take-first-ways μ p i m h = right μ p i m h .described
+
+  pub prove-what-they-bear-out : Paths-prove-what-they-bear-out
+  prove-what-they-bear-out μ p i m sound settled inn answer xs o leads h = proves μ p i m sound settled inn answer xs o leads h

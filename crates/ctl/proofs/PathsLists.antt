@@ -1,16 +1,14 @@
 -- Tests over lists, the first that passes, and counting the modes that pass.
 use Prim.Native.Nat.{ℕ, zero, suc, _+_, _<_, _≤_}
-use mathlib.Core.Path.{_≡_, refl, sym, ap, _∙_, subst}
-use mathlib.Core.Bool.{Bool, true, false, not, cond, _&&_, _||_}
-use mathlib.Core.List.{List, [], _∷_, _++_, map}
+use mathlib.Core.Path.{_≡_, refl, sym, ap, subst}
+use mathlib.Core.Bool.{Bool, true, false, not, cond, _||_}
+use mathlib.Core.List.{List, [], _∷_, _++_}
 use mathlib.Core.Logic.{_⊎_, inl, inr}
 use native.Mathlib.Omega.{arith}
-use native.Mathlib.Numerals.{add-one}
-use lib.Dec.{eqb, ltb}
+use lib.Dec.{eqb}
 use lib.ListN.{length, getD}
-use Rattle.std.specs.shelf.Lists.{leading}
-use Rattle.std.proofs.shelf.Tests.{both-ways, or-cases, or-left, or-right, or-from, or-parts, eqb-true, eqb-false, eq-eqb, ne-eqb, ltb-true, ltb-false, lt-ltb, le-ltb, cases-bool, cases-lt}
-use Rattle.ctl.specs.Tests.{any, all}
+use Rattle.std.proofs.shelf.Tests.{both-ways, or-cases, or-left, or-right, or-from, eqb-true, eq-eqb, cases-lt}
+use Rattle.ctl.specs.Tests.{any}
 use Rattle.ctl.specs.Paths.{firstOf, positionOf}
 
 pub not-both : {A : Type 0} (b : Bool) → b ≡ true → b ≡ false → A
@@ -201,3 +199,15 @@ unfolding member
 member-at [] j h = absurd (omega arith)
 member-at (x ∷ xs) zero h = or-left (eqb x x) (member xs x) (eq-eqb x x refl)
 member-at (x ∷ xs) (suc j) h = or-right (eqb x (getD xs j 0)) (member xs (getD xs j 0)) (member-at xs j (omega arith))
+
+-- the place of a member
+pub member-place : (xs : List ℕ) (x : ℕ) → member xs x ≡ true → (j : ℕ) × (j < length xs) × (getD xs j 0 ≡ x)
+unfolding member
+member-place [] x h = not-both false h refl
+member-place (y ∷ xs) x h =
+    elim (or-cases (eqb y x) (member xs x) h) [
+      | inl t ↦ (0, omega arith, eqb-true y x t)
+      | inr t ↦
+          let r = member-place xs x t in
+          (suc (r .0), omega (arith, r .1), r .2)
+    ]

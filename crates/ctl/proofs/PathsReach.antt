@@ -2,22 +2,20 @@
 -- the path that walks down them.
 use Prim.Native.Nat.{ℕ, zero, suc, _+_, _-_, _<_, _≤_}
 use mathlib.Core.Path.{_≡_, refl, sym, ap, _∙_, subst}
-use mathlib.Core.Bool.{Bool, true, false, not, cond, _&&_, _||_}
-use mathlib.Core.List.{List, [], _∷_, _++_, map}
+use mathlib.Core.Bool.{Bool, true, false, cond, _&&_, _||_}
+use mathlib.Core.List.{[], _∷_}
 use mathlib.Core.Logic.{_⊎_, inl, inr}
 use native.Mathlib.Omega.{arith}
 use native.Mathlib.Numerals.{add-one}
 use lib.Dec.{eqb, ltb}
 use lib.ListN.{length, getD, replicate}
-use Rattle.std.specs.Iters.{counting}
 use Rattle.std.proofs.shelf.Counted.{getD-map-counting, length-map-counting}
 use Rattle.std.proofs.shelf.Lists.{getD-past, length-replicate}
-use Rattle.std.proofs.shelf.Tests.{and-parts, and-from, or-cases, or-left, or-right, or-from, eqb-true, eqb-false, eq-eqb, ne-eqb, ltb-true, lt-ltb, le-ltb, cases-lt, cases-eq, cond-true, cond-false}
+use Rattle.std.proofs.shelf.Tests.{and-parts, and-from, or-cases, or-left, or-right, eqb-true, eq-eqb, ne-eqb, ltb-true, lt-ltb, le-ltb, cases-lt, cases-eq, cond-true, cond-false}
 use Rattle.ctl.specs.Tests.{any}
 use Rattle.ctl.specs.Chart.{Meaning, size, waysOf, degree}
-use Rattle.ctl.specs.Runs.{Way}
-use Rattle.ctl.specs.Paths.{firstOf, firstWay, numbered, numbersAfter, descent, Leads}
-use Rattle.ctl.proofs.PathsLists.{not-both, any-place, any-from, any-agree, FirstAt, first-of, find, tally, tally-le, tally-more}
+use Rattle.ctl.specs.Paths.{numbered, numbersAfter}
+use Rattle.ctl.proofs.PathsLists.{not-both, any-place, any-from, find, tally, tally-le, tally-more}
 
 -- the number of a mode after k rounds, and whether the next round gives it one
 abbrev pub number : Meaning → (ℕ → Bool) → (ℕ → Bool) → ℕ → ℕ → ℕ
@@ -101,10 +99,10 @@ module _ (μ : Meaning) (P Q : ℕ → Bool) where
       ]
 
   -- a number is one more than the rounds before it was given
-  abbrev Born : ℕ → ℕ → Type 0
+  abbrev pub Born : ℕ → ℕ → Type 0
   Born k m = (v : ℕ) × (v < k) × (num v m ≡ 0) × (test v m ≡ true) × (num k m ≡ suc v)
 
-  born : (k m : ℕ) → 0 < num k m → Born k m
+  pub born : (k m : ℕ) → 0 < num k m → Born k m
   born zero m h = absurd (omega (arith, num-zero m))
   born (suc k) m h = go (λ l. born k m l) (cases-lt 0 (num k m))
     where
@@ -136,10 +134,10 @@ module _ (μ : Meaning) (P Q : ℕ → Bool) where
       (any-from (λ x. ltb 0 (num k x)) (waysOf μ m) p l (lt-ltb 0 (num k (getD (waysOf μ m) p 0)) q)))
 
   -- an end, or a mode that passes with a way out to a numbered mode
-  abbrev Onward : ℕ → ℕ → Type 0
+  abbrev pub Onward : ℕ → ℕ → Type 0
   Onward k m = (Q m ≡ true) ⊎ ((p : ℕ) × (P m ≡ true) × (p < degree μ m) × (0 < num k (getD (waysOf μ m) p 0)))
 
-  onward : (k m : ℕ) → test k m ≡ true → Onward k m
+  pub onward : (k m : ℕ) → test k m ≡ true → Onward k m
   onward k m t =
       elim (or-cases (Q m) (P m && any (λ x. ltb 0 (num k x)) (waysOf μ m)) t) [
         | inl q ↦ inl q

@@ -1,9 +1,9 @@
 -- The path that stays: on by first ways, until a mode closes it or would stand twice; it ends within the chart's modes.
 use Prim.Native.Nat.{ℕ, zero, suc, _+_, _<_, _≤_}
-use mathlib.Core.Path.{_≡_, refl, sym, ap, _∙_, subst}
-use mathlib.Core.Bool.{Bool, true, false, cond}
+use mathlib.Core.Path.{_≡_, refl, sym, _∙_, subst}
+use mathlib.Core.Bool.{Bool, true, false}
 use mathlib.Core.List.{List, [], _∷_, _++_}
-use mathlib.Core.Logic.{_⊎_, inl, inr}
+use mathlib.Core.Logic.{inl, inr}
 use native.Mathlib.Omega.{arith}
 use lib.Dec.{ltb}
 use lib.ListN.{length, getD}
@@ -12,7 +12,7 @@ use Rattle.std.specs.declared.option.Option.the-variants.{Some, None}
 use Rattle.std.proofs.shelf.Lists.{length-push, getD-push, getD-append-left}
 use Rattle.std.proofs.shelf.Tests.{cases-lt, ltb-true, ltb-false, cond-both}
 use Rattle.ctl.specs.Tests.{any}
-use Rattle.ctl.specs.Chart.{Meaning, size, waysOf, degree}
+use Rattle.ctl.specs.Chart.{Meaning, size, waysOf}
 use Rattle.ctl.specs.Runs.{Way}
 use Rattle.ctl.specs.Paths.{Shown, firstWay, positionOf, staying, Leads}
 use Rattle.ctl.specs.PathLaws.{Apart}

@@ -1,18 +1,17 @@
 -- The path that walks down the numbers bears its answer out, is the shortest, and takes first ways.
 use Prim.Native.Nat.{ℕ, zero, suc, _+_, _-_, _<_, _≤_}
 use mathlib.Core.Path.{_≡_, refl, sym, ap, _∙_, subst}
-use mathlib.Core.Bool.{Bool, true, false}
+use mathlib.Core.Bool.{Bool, true}
 use mathlib.Core.List.{List, [], _∷_}
 use mathlib.Core.Logic.{_⊎_, inl, inr}
 use native.Mathlib.Omega.{arith}
 use lib.Dec.{eqb}
 use lib.ListN.{length, getD}
 use Rattle.std.proofs.shelf.Tests.{eqb-true, eq-eqb, cases-lt}
-use Rattle.std.specs.declared.option.Option.{Option}
-use Rattle.std.specs.declared.option.Option.the-variants.{Some, None}
-use Rattle.ctl.specs.Chart.{Meaning, size, waysOf, degree}
+use Rattle.std.specs.declared.option.Option.the-variants.{None}
+use Rattle.ctl.specs.Chart.{Meaning, size, waysOf}
 use Rattle.ctl.specs.Runs.{Way}
-use Rattle.ctl.specs.Paths.{Shape, reach, firstWay, numbers, numbersAfter, descent, Leads, Bears}
+use Rattle.ctl.specs.Paths.{reach, firstWay, numbers, descent, Leads, Bears}
 use Rattle.ctl.specs.PathLaws.{Reaches, Fewest, First}
 use Rattle.ctl.proofs.PathsLists.{not-both, FirstAt, first-of}
 use Rattle.ctl.proofs.PathsReach.{Closed, number, soon, from-end, from-way, kept, num-le, ends, descends, within, in-time}
@@ -132,7 +131,7 @@ module _ (μ : Meaning) (closed : Closed μ) (P Q : ℕ → Bool) (R : ℕ → �
   )
 
   -- any path that bears the answer out has its first mode numbered after as many rounds as it has modes
-  counts :
+  pub counts :
       (ys : List ℕ) (m : ℕ) → m < size μ → Reaches μ R (reach a b) m ys → 0 < number μ P Q (length ys) m
   counts [] m l r = absurd (omega (arith, r .0 .0))
   counts (y ∷ []) m l r =

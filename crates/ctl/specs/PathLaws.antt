@@ -12,9 +12,8 @@ use Rattle.ctl.specs.Runs.{Holds}
 use Rattle.ctl.specs.Rounds.{Progress, lineAt, after}
 use Rattle.ctl.specs.Paths.{Shape, none, step, reach, stay, shapeOf, Shown, shown, Leads, Bears}
 use Rattle.ctl.specs.Laws.{Sound, lineProperty}
-use Rattle.ctl.specs.declared.rule.Quantifier.{Quantifier}
 use Rattle.ctl.specs.declared.rule.Quantifier.the-variants.{Exists, Forall}
-use Rattle.ctl.specs.declared.rule.Temporal.the-variants.{Until, Release}
+use Rattle.ctl.specs.declared.rule.Temporal.the-variants.{Until}
 use Rattle.ctl.specs.declared.rule.Rule.{Rule}
 use Rattle.ctl.specs.declared.rule.Rule.the-variants.{Constant, Mark, Next, Path}
 
@@ -120,6 +119,18 @@ Shown-paths-take-first-ways =
     (μ : Meaning) (p : Progress) (i m : ℕ)
     → Showable μ p i m
     → Described μ (Answered μ p (answerAt p i m)) i (shapeAt p i m) (shown μ p i m .modes) (shown μ p i m .returns)
+
+-- what bears an answer out proves it: where such a path leads from the mode, the line has the answer over unending runs
+abbrev pub Paths-prove-what-they-bear-out : Type 0
+Paths-prove-what-they-bear-out =
+    (μ : Meaning) (p : Progress) (i m : ℕ)
+    → Sound μ p
+    → i < p .settled
+    → m < size μ
+    → (answer : Bool) (xs : List ℕ) (o : Option ℕ)
+    → Leads μ m xs
+    → Bears μ (Answered μ p answer) (shapeOf (lineAt p i .rule) answer) xs o
+    → Answered μ p answer i m
 
 -- worked on the counter of length 4, at mode 0: some run comes to the last mode, by all four modes; not every run does,
 -- since the one by 0, 1 and 2 may return to 0; not every way out leads to a mode that is not the first

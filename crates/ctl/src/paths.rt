@@ -1,5 +1,5 @@
 // The laws of shown paths: each function's contract is one of them.
-ghost use Rattle.ctl.specs.PathLaws.{Shown-paths-follow-ways, Shown-paths-bear-out-their-answers, Shown-paths-are-shortest, Shown-paths-fit-the-chart, Shown-paths-take-first-ways, The-counter-shows-its-paths};
+ghost use Rattle.ctl.specs.PathLaws.{Shown-paths-follow-ways, Shown-paths-bear-out-their-answers, Shown-paths-are-shortest, Shown-paths-fit-the-chart, Shown-paths-take-first-ways, Paths-prove-what-they-bear-out, The-counter-shows-its-paths};
 
 // A shown path starts at the mode, follows ways, and stays within the chart.
 pub fn shown_paths_follow_ways()
@@ -24,6 +24,11 @@ pub fn shown_paths_fit_the_chart()
 // Which path is shown: each step is the first way out, in order, that serves.
 pub fn shown_paths_take_first_ways()
     ensures { λ _. ⌜ Shown-paths-take-first-ways ⌝ }
+{}
+
+// Where a path that bears an answer out leads from a mode, the line has that answer over unending runs.
+pub fn paths_prove_what_they_bear_out()
+    ensures { λ _. ⌜ Paths-prove-what-they-bear-out ⌝ }
 {}
 
 // The counter of four modes, worked: a path to the last mode, a return to the first, a step to it.
