@@ -11,3 +11,10 @@ pub mod Places
 pub mod Entries
 pub mod Consequences
 pub mod Meter
+pub mod PathsLists
+pub mod PathsReach
+pub mod PathsWalk
+pub mod PathsStay
+pub mod PathsFacts
+pub mod PathsProve
+pub mod PathsLaws

@@ -8,3 +8,4 @@ pub mod Rounds
 pub mod Paths
 pub mod Laws
 pub mod Meter
+pub mod PathLaws

@@ -2,6 +2,7 @@
 // rules that a property becomes, the rounds that settle them, and the paths that bear out an answer.
 // The code of this crate is the plain data that the definitions speak of, and one function for each theorem.
 pub mod laws;
+pub mod paths;
 pub mod rule;
 
 pub use rule::Connective;
