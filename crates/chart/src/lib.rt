@@ -2,7 +2,14 @@
 // counters, charts read from a file, pairs of charts, and lent charts.
 pub mod chart;
 pub mod counter;
+pub mod lent;
+pub mod pair;
+mod side;
 
 pub use chart::Chart;
 pub use counter::CounterChart;
 pub use counter::CounterIsChart;
+pub use lent::LentIsChart;
+pub use pair::Pair;
+pub use pair::PairIsChart;
+pub use pair::fits;
