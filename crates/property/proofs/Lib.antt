@@ -1,0 +1,5 @@
+pub mod Fitted
+pub mod Scanned
+pub mod Answered
+pub mod Listed
+pub mod Whole
