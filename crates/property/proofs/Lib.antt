@@ -3,3 +3,5 @@ pub mod Scanned
 pub mod Answered
 pub mod Listed
 pub mod Whole
+pub mod Passing
+pub mod Sought

@@ -1,14 +1,15 @@
 -- Lists of names: names of letters with one comma between neighbours.
 use Prim.Native.Nat.{ℕ, _+_, _<_, _≤_}
 use mathlib.Core.Path.{_≡_}
-use mathlib.Core.Bool.{Bool, true, false, cond, _&&_}
+use mathlib.Core.Bool.{Bool, true, false, not, cond, _&&_}
 use mathlib.Core.List.{List, [], _∷_, _++_}
-use lib.Dec.{eqb, leb}
-use lib.ListN.{length, getD}
+use lib.Dec.{eqb, leb, ltb}
+use lib.ListN.{length, getD, drop}
 use Rattle.std.specs.declared.option.Option.{Option}
 use Rattle.std.specs.declared.option.Option.the-variants.{Some, None}
+use denote.Ref.{RefT, now}
 use Rattle.std.specs.shelf.Text.{sameBytes}
-use Rattle.property.specs.Words.{isLetter}
+use Rattle.property.specs.Words.{isLetter, frontOf}
 
 -- what stands between the commas
 abbrev pub grown : ℕ → List (List ℕ) → List (List ℕ)
@@ -65,3 +66,22 @@ Listing marks list ns =
     × ((length ns ≡ marks)
     × (((k : ℕ) → k < length ns → proper (getD ns k []) ≡ true)
     × ((j k : ℕ) → j < k → k < length ns → getD ns j [] ≡ getD ns k [] → ⊥)))
+
+-- the first piece of a list
+abbrev pub firstPiece : List ℕ → List ℕ
+firstPiece list = frontOf (λ b. not (eqb b 44)) list
+
+-- the pieces behind the comma at a place, if the list goes on there
+abbrev pub behind : ℕ → List ℕ → List (List ℕ)
+behind e list = cond (ltb e (length list)) (pieces (drop (e + 1) list)) []
+
+-- the pieces of what is left of a list
+abbrev pub remaining : Option (RefT (List ℕ)) → List (List ℕ)
+remaining None = []
+remaining (Some rest) = pieces (now rest)
+
+-- a good list is such a listing of its names, and no other; of a list that is not good there is none
+abbrev pub Listed : ℕ → List ℕ → Type 0
+Listed marks list =
+    (goodList marks list ≡ true → Listing marks list (listed list))
+    × ((ns : List (List ℕ)) → Listing marks list ns → (goodList marks list ≡ true) × (ns ≡ listed list))

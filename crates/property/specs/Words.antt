@@ -58,10 +58,14 @@ spelled (w ∷ ws) = spelling w ++ spelled ws
 abbrev pub isLetter : ℕ → Bool
 isLetter b = leb 97 b && leb b 122
 
+-- the longest front that passes a test
+abbrev pub frontOf : (ℕ → Bool) → List ℕ → List ℕ
+frontOf p [] = []
+frontOf p (b ∷ bs) = cond (p b) (b ∷ frontOf p bs) []
+
 -- the longest row of letters at the front
 abbrev pub lettersOf : List ℕ → List ℕ
-lettersOf [] = []
-lettersOf (b ∷ bs) = cond (isLetter b) (b ∷ lettersOf bs) []
+lettersOf t = frontOf isLetter t
 
 -- the entry of a byte in a table
 abbrev pub found : {X : Type 0} → ℕ → List (ℕ × X) → Option X
