@@ -5,3 +5,4 @@ pub mod Listed
 pub mod Whole
 pub mod Passing
 pub mod Sought
+pub mod Turned

@@ -24,11 +24,11 @@ use Rattle.property.specs.Lists.{allLetters}
 use Rattle.property.specs.Laws.{Proper, Whole, Begins, NoneFormed}
 
 -- each entry of a table
-abbrev All : {X : Type 0} → (ℕ → X → Type 0) → List (ℕ × X) → Type 0
+abbrev pub All : {X : Type 0} → (ℕ → X → Type 0) → List (ℕ × X) → Type 0
 All P [] = Unit {0}
 All P (e ∷ es) = P (e .0) (e .1) × All P es
 
-found-all : {X : Type 0} (P : ℕ → X → Type 0) (es : List (ℕ × X)) → All P es → (b : ℕ) (x : X) → found b es ≡ Some x → P b x
+pub found-all : {X : Type 0} (P : ℕ → X → Type 0) (es : List (ℕ × X)) → All P es → (b : ℕ) (x : X) → found b es ≡ Some x → P b x
 found-all P [] a b x e = absurd (let z : _≡_ {A = ℕ} 0 1 = cc in omega arith)
 found-all {X} P (y ∷ es) a b x e =
     elim (cases-bool (eqb b (y .0))) [
@@ -38,20 +38,20 @@ found-all {X} P (y ∷ es) a b x e =
       | inr h ↦ found-all P es (a .1) b x (sym (cond-false (eqb b (y .0)) (Some (y .1)) (found b es) h) ∙ e)
     ]
 
-abbrev Single : ℕ → Word → Type 0
+abbrev pub Single : ℕ → Word → Type 0
 Single b w = (spelling w ≡ b ∷ []) × ((t : List ℕ) → Whole w t)
 
-abbrev Second : Quantifier → ℕ → Word → Type 0
+abbrev pub Second : Quantifier → ℕ → Word → Type 0
 Second q b w = (spelling w ≡ capital q ∷ (b ∷ [])) × ((t : List ℕ) → Whole w t)
 
-all-singles : All Single singles
+pub all-singles : All Single singles
 all-singles =
     ((refl, λ t. tt), ((refl, λ t. tt), ((refl, λ t. tt), ((refl, λ t. tt), ((refl, λ t. tt), ((refl, λ t. tt), ((refl, λ t. tt), ((refl, λ t. tt), ((refl, λ t. tt), ((refl, λ t. tt), tt))))))))))
 
-all-completions : (q : Quantifier) → All (Second q) (completions q)
+pub all-completions : (q : Quantifier) → All (Second q) (completions q)
 all-completions q = ((refl, λ t. tt), ((refl, λ t. tt), ((refl, λ t. tt), ((refl, λ t. tt), tt))))
 
-all-capitals : All (λ b q. b ≡ capital q) capitals
+pub all-capitals : All (λ b q. b ≡ capital q) capitals
 all-capitals = (refl, (refl, tt))
 
 -- a row of letters and the rest

@@ -1,6 +1,7 @@
 pub mod Syntax
 pub mod Words
 pub mod Lists
+pub mod Forming
 pub mod Writing
 pub mod Machine
 pub mod Reading

@@ -74,7 +74,8 @@ fn is_proper(name: &[u8]) -> bool
 
 // The end of the longest row of letters a to z that begins at a place.
 pub fn letters_end(text: &[u8], from: usize) -> usize
-    ensures { λ r. ⌜ r ≡ from + length (lettersOf (drop from (now (text .entry)))) ⌝ }
+    ensures value { λ r. ⌜ r ≡ from + length (lettersOf (drop from (now (text .entry)))) ⌝ }
+    ensures within { λ r. ⌜ (from ≤ length (now (text .entry)) → r ≤ length (now (text .entry))) ⌝ }
 {
     let mut end = from;
     while end < text.len() && text[end].is_ascii_lowercase() {
