@@ -1,3 +1,4 @@
 mod Counters
 mod Pairs
 mod Records
+mod Files

@@ -6,6 +6,7 @@ ghost use Rattle.std.specs.Of.Vec.{vec-cap, vec-items};
 use super::record::ModeRecord;
 
 pub mod answers;
+mod check;
 pub mod open;
 
 #[derive(Drop)]
