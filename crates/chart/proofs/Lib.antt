@@ -2,3 +2,4 @@ mod Counters
 mod Pairs
 mod Records
 mod Files
+mod Sound

@@ -104,7 +104,7 @@ abbrev pub unlessSo : Bool → Refusal → Option Refusal → Option Refusal
 unlessSo true e rest = rest
 unlessSo false e rest = Some e
 
-abbrev pub fault : List ℕ → Option Refusal
+unfoldable pub fault : List ℕ → Option Refusal
 fault f =
     unlessSo (leb 12 (length f)) ShortFile
     (unlessSo (signed f) Signature

@@ -7,7 +7,7 @@ use super::record::ModeRecord;
 
 pub mod answers;
 mod check;
-pub mod open;
+mod open;
 
 #[derive(Drop)]
 pub struct FiledChart {

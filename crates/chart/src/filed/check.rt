@@ -1,10 +1,11 @@
 // Whether a file is a chart: its header, its length, and each record's layout, with the first cause to refuse it.
 // `specs/Files.antt` has the format.
 ghost use Prim.Native.Nat.{_+_, _*_, _<_, _≤_};
-ghost use Rattle.chart.specs.Files.{answer, byte, fault, fileLength, headerOf, limited, lowest, placeOf, placeSound, placesSound, soundAt, soundIn, stride};
+ghost use Rattle.chart.specs.Files.{fault, fileLength, headerOf, limited, lowest, placeOf, placeSound, placesSound, soundAt, soundIn, stride};
 ghost use Rattle.chart.specs.Files.{number as numberAt, signed as signedFile};
+ghost use Rattle.std.specs.declared.option.Option.the-variants.{None, Some};
+ghost use Rattle.std.specs.declared.result.Result.the-variants.{Err, Ok};
 ghost use lib.ListN.{length};
-ghost use mathlib.Core.Bool.{true};
 ghost use mathlib.Core.Path.{_≡_};
 use crate::record::Header;
 use basis::Refusal;
@@ -28,7 +29,13 @@ fn header(file: &[u8]) -> Header
     requires { ⌜ 12 ≤ length (now file) ⌝ }
     ensures { λ r. ⌜ r ≡ headerOf (now (file .entry)) ⌝ }
 {
-    Header { modes: number(file, 5), marks: file[7], width: file[8], start: number(file, 9), spare: file[11] }
+    Header {
+        modes: number(file, 5),
+        marks: file[7],
+        width: file[8],
+        start: number(file, 9),
+        spare: file[11],
+    }
 }
 
 impl Header {
@@ -64,7 +71,11 @@ impl Header {
 fn place_is_sound(header: &Header, degree: u8, place: u8, way: u16) -> bool
     ensures { λ r. ⌜ r ≡ placeSound (now (header .entry) .modes) degree place way ⌝ }
 {
-    if place < degree { way < header.modes } else { way == 0xFFFF }
+    if place < degree {
+        way < header.modes
+    } else {
+        way == 0xFFFF
+    }
 }
 
 fn places_are_sound(file: &[u8], header: &Header, at: usize, degree: u8) -> bool
@@ -107,7 +118,7 @@ fn lowest_unsound(file: &[u8], header: &Header) -> Option<u16>
 
 // The file's header, or the first cause to refuse the file.
 pub fn check(file: &[u8]) -> Result<Header, Refusal>
-    ensures { λ r. ⌜ r ≡ answer (fault (now (file .entry))) (headerOf (now (file .entry))) ⌝ }
+    ensures { λ r. ⌜ elim r [ Ok h ↦ (fault (now (file .entry)) ≡ None) × (h ≡ headerOf (now (file .entry))) | Err e ↦ fault (now (file .entry)) ≡ Some e ] ⌝ }
 {
     if file.len() < 12 {
         return Err(Refusal::ShortFile);
