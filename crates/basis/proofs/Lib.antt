@@ -1,4 +1,4 @@
-mod Laying
-mod Figures
-mod Pieces
+pub mod Laying
+pub mod Figures
+pub mod Pieces
 mod Telling
