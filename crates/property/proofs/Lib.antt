@@ -6,3 +6,4 @@ pub mod Whole
 pub mod Passing
 pub mod Sought
 pub mod Turned
+pub mod Simulated
