@@ -7,3 +7,4 @@ pub mod Passing
 pub mod Sought
 pub mod Turned
 pub mod Simulated
+pub mod Driven

@@ -9,7 +9,10 @@ ghost use Rattle.basis.specs.Stacks.{held};
 ghost use Rattle.property.specs.Forming.{wordOf};
 ghost use Rattle.property.specs.Lists.{listed};
 ghost use Rattle.property.specs.Machine.{operator, closes};
-ghost use Rattle.property.specs.Flat.{tags, leadingUnary, separated, closed, dropped, restTags, unaries, fitted, withState};
+ghost use Rattle.property.specs.Flat.{tags, leadingUnary, separated, closed, dropped, restTags, unaries, fitted, withState, isNone};
+ghost use mathlib.Core.Bool.{cond, _&&_};
+ghost use Rattle.std.specs.declared.result.Result.the-variants.{Ok, Err};
+ghost use Rattle.basis.specs.declared.refusal.Refusal.the-variants.{Grammar};
 use crate::names::find;
 use crate::postfix::Parts;
 use crate::shape::BinaryOperator;
@@ -189,5 +192,16 @@ pub(crate) fn fit(
             Ok(true)
         }
         (_, _) => Err(Refusal::Grammar(position)),
+    }
+}
+
+// At the text's end an operand has to stand complete, with nothing waiting.
+pub(crate) fn finish(complete: bool, stack: &Stack<'_, Waiting>, end: usize) -> Result<(), Refusal>
+    ensures { λ r. ⌜ r ≡ cond (complete && isNone (tags (held (now (stack .entry) .count) (now (now (stack .entry) .slots))))) (Ok tt) (Err (Grammar end)) ⌝ }
+{
+    if complete && stack.top().is_none() {
+        Ok(())
+    } else {
+        Err(Refusal::Grammar(end))
     }
 }
