@@ -17,6 +17,7 @@ use Rattle.property.specs.declared.shape.Tag.the-variants.{Unary, Left, Right}
 use Rattle.property.specs.declared.shape.Part.{Part}
 use Rattle.property.specs.declared.shape.Part.the-variants.{Constant, Name, Unary as UnaryPart, Binary}
 use Rattle.property.specs.declared.shape.Waiting.{Waiting}
+use Rattle.property.specs.Syntax.{Syntax, parts}
 use Rattle.property.specs.Words.{Word, letters, digit, before, opening, middle, closing, Scan, ends, fails, more}
 use Rattle.property.specs.Lists.{placeOf}
 use Rattle.property.specs.Machine.{operator, closes}
@@ -120,3 +121,7 @@ fitAll ns f (more w p rest) = onward (fitted ns (f .0) (f .1 .0) (f .1 .1) w p) 
 abbrev pub withParts : Result (Unit {0}) Refusal → List Part → Result (List Part) Refusal
 withParts (Ok x) ps = Ok ps
 withParts (Err e) ps = Err e
+
+abbrev pub asParts : Result (Syntax ℕ) Refusal → Result (List Part) Refusal
+asParts (Ok t) = Ok (parts t)
+asParts (Err e) = Err e
