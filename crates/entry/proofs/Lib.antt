@@ -1,5 +1,6 @@
 pub mod Found
+pub mod Placed
 pub mod Planned
 pub mod Same
 pub mod Stacked
-pub mod Placed
+pub mod Written

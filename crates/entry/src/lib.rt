@@ -1,9 +1,12 @@
 // The lines of a property's positive normal form, written behind the lines that a sheet has already, or refused with the
 // count of lines as it was.
+pub mod count;
 pub mod memory;
 mod placing;
 mod plan;
 pub mod shape;
 mod stack;
+mod writing;
 
+pub use count::Tally;
 pub use memory::Scratch;
