@@ -4,4 +4,5 @@ pub mod Placed
 pub mod Planned
 pub mod Same
 pub mod Stacked
+pub mod Trees
 pub mod Written

@@ -7,6 +7,8 @@ mod placing;
 mod plan;
 pub mod shape;
 mod stack;
+#[cfg(test)]
+mod tests;
 mod writing;
 
 pub use count::Tally;

@@ -9,7 +9,7 @@ ghost use mathlib.Core.List.{_∷_};
 ghost use mathlib.Core.Path.{_≡_};
 
 // Puts one more on top.
-pub fn push_top<T>(stack: &mut Vec<T>, element: T)
+pub(crate) fn push_top<T>(stack: &mut Vec<T>, element: T)
     requires { ⌜ vec-len (now stack) < vec-cap (now stack) ⌝ }
     ensures holds { λ _. ⌜ stacked (now (stack .exit)) ≡ element ∷ stacked (now (stack .entry)) ⌝ }
     ensures len { λ _. ⌜ vec-len (now (stack .exit)) ≡ vec-len (now (stack .entry)) + 1 ⌝ }
@@ -19,7 +19,7 @@ pub fn push_top<T>(stack: &mut Vec<T>, element: T)
 }
 
 // Takes the newest off.
-pub fn pop_top<T: Copy>(stack: &mut Vec<T>) -> Option<T>
+pub(crate) fn pop_top<T: Copy>(stack: &mut Vec<T>) -> Option<T>
     ensures value { λ r. ⌜ r ≡ newest (stacked (now (stack .entry))) ⌝ }
     ensures holds { λ _. ⌜ stacked (now (stack .exit)) ≡ older (stacked (now (stack .entry))) ⌝ }
     ensures test { λ r. ⌜ isSome r ≡ ltb 0 (vec-len (now (stack .entry))) ⌝ }
