@@ -1,0 +1,10 @@
+// The path that is shown for a settled line's answer: the modes that bear it out, and where the last one returns.
+mod criterion;
+mod laying;
+mod numbers;
+mod reading;
+pub mod scratch;
+mod ways;
+
+pub use scratch::Scratch;
+pub use scratch::Shown;
