@@ -1,2 +1,4 @@
 mod Laid
 mod Firsts
+mod Counts
+mod Descents

@@ -8,7 +8,7 @@ ghost use Rattle.witness.specs.Path.{pathOn, laidOver};
 use basis::Stack;
 
 // Goes on to a mode.
-fn add(path: &mut Stack<'_, u16>, mode: u16)
+pub fn add(path: &mut Stack<'_, u16>, mode: u16)
     requires { ⌜ now path .count < length (now (now path .slots)) ⌝ }
     ensures holds { λ _. ⌜ pathOn (now (path .exit)) ≡ pathOn (now (path .entry)) ++ mode ∷ [] ⌝ }
     ensures count { λ _. ⌜ now (path .exit) .count ≡ now (path .entry) .count + 1 ⌝ }

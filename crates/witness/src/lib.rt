@@ -4,6 +4,7 @@ mod laying;
 mod numbers;
 mod reading;
 pub mod scratch;
+mod walks;
 mod ways;
 
 pub use scratch::Scratch;

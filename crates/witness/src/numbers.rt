@@ -40,7 +40,7 @@ fn number_after<C: Chart>(
     mode: u16,
 ) -> u16
     requires { ⌜ round < 256 ⌝ }
-    ensures { λ r. ⌜ r ≡ numberedAt (C·Chart .meaning (now (chart .entry))) (readBy passing) (readBy ending) (now (before .entry)) round mode ⌝ }
+    ensures { λ r. ⌜ r ≡ numberedAt (C·Chart .meaning (now (chart .entry))) (readBy (passing .entry)) (readBy (ending .entry)) (now (before .entry)) round mode ⌝ }
 {
     let number = number_of(before, mode);
     if number > 0 {
@@ -66,7 +66,7 @@ fn number_round<C: Chart>(
 )
     requires room { ⌜ 256 ≤ vec-cap (now next) ⌝ }
     requires few { ⌜ round < 256 ⌝ }
-    ensures items { λ _. ⌜ vec-items (now (next .exit)) ≡ map (numberedAt (C·Chart .meaning (now (chart .entry))) (readBy passing) (readBy ending) (now (before .entry)) round) (counting 0 (size (C·Chart .meaning (now (chart .entry))))) ⌝ }
+    ensures items { λ _. ⌜ vec-items (now (next .exit)) ≡ map (numberedAt (C·Chart .meaning (now (chart .entry))) (readBy (passing .entry)) (readBy (ending .entry)) (now (before .entry)) round) (counting 0 (size (C·Chart .meaning (now (chart .entry))))) ⌝ }
     ensures room { λ _. ⌜ 256 ≤ vec-cap (now (next .exit)) ⌝ }
 {
     next.clear();
@@ -85,7 +85,7 @@ pub fn find_numbers<C: Chart>(
 )
     requires table { ⌜ 256 ≤ vec-cap (now numbers) ⌝ }
     requires fresh { ⌜ 256 ≤ vec-cap (now next) ⌝ }
-    ensures items { λ _. ⌜ vec-items (now (numbers .exit)) ≡ shortest (C·Chart .meaning (now (chart .entry))) (readBy passing) (readBy ending) ⌝ }
+    ensures items { λ _. ⌜ vec-items (now (numbers .exit)) ≡ shortest (C·Chart .meaning (now (chart .entry))) (readBy (passing .entry)) (readBy (ending .entry)) ⌝ }
     ensures table { λ _. ⌜ 256 ≤ vec-cap (now (numbers .exit)) ⌝ }
     ensures fresh { λ _. ⌜ 256 ≤ vec-cap (now (next .exit)) ⌝ }
 {

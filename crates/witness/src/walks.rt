@@ -1,0 +1,55 @@
+// The two walks: down the numbers, and by the first way out that keeps an answer.
+ghost use mathlib.Core.Path.{_≡_};
+ghost use mathlib.Core.Bool.{Bool};
+ghost use mathlib.Core.List.{List, [], _++_};
+ghost use Prim.Native.Nat.{ℕ, _+_, _≤_, _<_};
+ghost use lib.ListN.{length, getD, set};
+ghost use denote.Ref.{name};
+ghost use Rattle.std.specs.Of.Vec.{vec-items, vec-len, vec-cap};
+ghost use Rattle.ctl.specs.Chart.{size};
+ghost use Rattle.ctl.specs.Paths.{descent};
+ghost use Rattle.witness.specs.Path.{pathOn, placedAt};
+ghost use Rattle.witness.specs.Criteria.{readBy};
+use crate::criterion::NumberedCriterion;
+use crate::criterion::number_of;
+use crate::laying::add;
+use crate::reading::Numbered;
+use crate::ways::first_way;
+use basis::Stack;
+use chart::Chart;
+
+// Goes on by the first way out whose number is one less, as many modes as the number says.
+pub fn descend<C: Chart>(chart: &C, numbers: &[u16], mode: u16, path: &mut Stack<'_, u16>)
+    requires { ⌜ now path .count + getD (now numbers) mode 0 ≤ length (now (now path .slots)) ⌝ }
+    ensures holds { λ _. ⌜ pathOn (now (path .exit)) ≡ pathOn (now (path .entry)) ++ descent (C·Chart .meaning (now (chart .entry))) (now (numbers .entry)) (getD (now (numbers .entry)) mode 0) mode ⌝ }
+    ensures lender { λ _. ⌜ name (now (path .exit) .slots) ≡ name (now (path .entry) .slots) ⌝ }
+{
+    let mut at = mode;
+    for number in (0..number_of(numbers, mode)).rev() {
+        add(path, at);
+        at = first_way(chart, &Numbered { numbers, number }, at);
+    }
+}
+
+// Notes the place of a mode, counted from 1.
+fn note(places: &mut Vec<u16>, mode: u16, place: u16)
+    ensures items { λ _. ⌜ vec-items (now (places .exit)) ≡ set (vec-items (now (places .entry))) mode place ⌝ }
+    ensures len { λ _. ⌜ vec-len (now (places .exit)) ≡ vec-len (now (places .entry)) ⌝ }
+    ensures room { λ _. ⌜ vec-cap (now (places .exit)) ≡ vec-cap (now (places .entry)) ⌝ }
+{
+    if (mode as usize) < places.len() {
+        places[mode as usize] = place;
+    }
+}
+
+// The place where a mode was passed, if it was. A mode that the chart does not have leads nowhere but to itself, so
+// it is where the walk began.
+fn passed(places: &[u16], mode: u16) -> Option<usize>
+    ensures { λ r. ⌜ r ≡ placedAt (now (places .entry)) mode ⌝ }
+{
+    match places.get(mode as usize) {
+        Some(0) => None,
+        Some(place) => Some(*place as usize - 1),
+        None => Some(0),
+    }
+}
