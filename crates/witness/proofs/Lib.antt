@@ -2,3 +2,5 @@ mod Laid
 mod Firsts
 mod Counts
 mod Descents
+mod Places
+mod Stays
