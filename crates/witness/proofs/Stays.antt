@@ -9,7 +9,7 @@ use lib.Dec.{ltb}
 use lib.ListN.{length, getD, set, replicate}
 use Rattle.std.specs.declared.option.Option.{Option}
 use Rattle.std.specs.declared.option.Option.the-variants.{Some, None}
-use Rattle.std.proofs.shelf.Lists.{getD-past, length-push, length-set}
+use Rattle.std.proofs.shelf.Lists.{getD-past, length-push, length-set, length-replicate}
 use Rattle.std.proofs.shelf.Sums.{leading-le-length}
 use Rattle.std.proofs.shelf.Tests.{cases-lt, ltb-false, cases-bool, cond-true, cond-false, lt-ltb, le-ltb}
 use Rattle.ctl.specs.Chart.{Meaning, Row, blank, size, waysOf, Lawful}
@@ -43,14 +43,16 @@ module _ (μ : Meaning) (closes inside : ℕ → Bool) where
     pub unpassed : positionOf at before ≡ length before
     pub begun : size μ ≤ at → step ≡ 0
 
-  pub walking-first : (m : ℕ) (places : List ℕ) → places ≡ replicate (size μ) 0 → length places ≡ size μ → Walking m m 0 [] places
-  walking-first m places e l =
+  pub walking-first : (m n : ℕ) (before places : List ℕ) → before ≡ [] → n ≡ size μ → places ≡ replicate n 0 → Walking m m 0 before places
+  walking-first m n before places b e t =
+      let l : length places ≡ n = ap length t ∙ length-replicate n 0 in
+      let d : size μ ≡ size μ - 0 = omega arith in
       record {
-        rest = ap (λ (k : ℕ). staying μ closes inside k [] m) (omega arith);
-        long = refl;
-        table = l;
-        placed = placed-none (size μ) places e l;
-        unpassed = refl;
+        rest = ap (λ (k : ℕ). staying μ closes inside k [] m) d ∙ ap (λ (xs : List ℕ). staying μ closes inside (size μ - 0) xs m) (sym b);
+        long = ap length b;
+        table = l ∙ e;
+        placed = subst (Placed places) (sym b) (placed-none n places t l);
+        unpassed = ap (positionOf m) b ∙ sym (ap length b);
         begun = λ h. refl;
       }
 

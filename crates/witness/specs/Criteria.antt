@@ -1,6 +1,6 @@
 -- What a walk asks of a mode, and the first way out that passes.
 use Prim.Native.Nat.{ℕ}
-use mathlib.Core.Bool.{Bool, cond}
+use mathlib.Core.Bool.{Bool, cond, _&&_}
 use mathlib.Core.List.{List, [], _∷_}
 use lib.Dec.{eqb, ltb}
 use lib.ListN.{getD}
@@ -14,6 +14,9 @@ use Rattle.witness.specs.declared.reading.Reached.{Reached}
 
 abbrev pub readBy : Reading → ℕ → Bool
 readBy c m = reads (c .answer) (now (c .set)) m
+
+abbrev pub bothRead : Reading → Reading → ℕ → Bool
+bothRead p q m = readBy p m && readBy q m
 
 abbrev pub numberedBy : Numbered → ℕ → Bool
 numberedBy c m = eqb (getD (now (c .numbers)) m 0) (c .number)

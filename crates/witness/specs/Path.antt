@@ -9,10 +9,15 @@ use Rattle.std.specs.declared.option.Option.{Option}
 use Rattle.std.specs.declared.option.Option.the-variants.{Some, None}
 use Rattle.basis.specs.Stacks.{held}
 use Rattle.basis.specs.declared.stack.Stack.{Stack}
+use Rattle.ctl.specs.Paths as paths
 
 -- the modes on a stack, from the oldest
 abbrev pub pathOn : Stack ℕ → List ℕ
 pathOn s = reverse (held (s .count) (now (s .slots)))
+
+-- the path on a stack with the place to which it returns
+abbrev pub traced : Stack ℕ → Option ℕ → paths.Shown
+traced s place = record { modes = pathOn s; returns = place }
 
 -- a buffer that begins with a path, the rest as it was
 abbrev pub laidOver : List ℕ → List ℕ → List ℕ

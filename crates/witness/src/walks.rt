@@ -7,13 +7,17 @@ ghost use lib.ListN.{length, getD, set};
 ghost use denote.Ref.{name};
 ghost use Rattle.std.specs.Of.Vec.{vec-items, vec-len, vec-cap};
 ghost use Rattle.ctl.specs.Chart.{size};
-ghost use Rattle.ctl.specs.Paths.{descent};
-ghost use Rattle.witness.specs.Path.{pathOn, placedAt};
-ghost use Rattle.witness.specs.Criteria.{readBy};
+ghost use Rattle.ctl.specs.Paths.{descent, staying};
+ghost use Rattle.witness.specs.Path.{pathOn, placedAt, traced};
+ghost use Rattle.witness.specs.Criteria.{readBy, bothRead};
+use crate::criterion::Criterion;
 use crate::criterion::NumberedCriterion;
+use crate::criterion::ReadingCriterion;
 use crate::criterion::number_of;
 use crate::laying::add;
+use crate::numbers::clear;
 use crate::reading::Numbered;
+use crate::reading::Reading;
 use crate::ways::first_way;
 use basis::Stack;
 use chart::Chart;
@@ -52,4 +56,47 @@ fn passed(places: &[u16], mode: u16) -> Option<usize>
         Some(place) => Some(*place as usize - 1),
         None => Some(0),
     }
+}
+
+// Whether both operands have the answer.
+fn closes(left: Reading<'_>, right: Reading<'_>, mode: u16) -> bool
+    ensures { λ r. ⌜ r ≡ bothRead (left .entry) (right .entry) mode ⌝ }
+{
+    left.admits(mode) && right.admits(mode)
+}
+
+// Goes on by the first way out with the answer, until both operands have it or a mode comes again: its place then.
+pub fn stay<C: Chart>(
+    chart: &C,
+    left: Reading<'_>,
+    right: Reading<'_>,
+    inside: Reading<'_>,
+    mode: u16,
+    places: &mut Vec<u16>,
+    path: &mut Stack<'_, u16>,
+) -> Option<usize>
+    requires empty { ⌜ pathOn (now path) ≡ [] ⌝ }
+    requires none { ⌜ now path .count ≡ 0 ⌝ }
+    requires room { ⌜ 257 ≤ length (now (now path .slots)) ⌝ }
+    requires table { ⌜ 256 ≤ vec-cap (now places) ⌝ }
+    ensures path { λ r. ⌜ traced (now (path .exit)) r ≡ staying (C·Chart .meaning (now (chart .entry))) (bothRead (left .entry) (right .entry)) (readBy (inside .entry)) (size (C·Chart .meaning (now (chart .entry)))) [] mode ⌝ }
+    ensures lender { λ _. ⌜ name (now (path .exit) .slots) ≡ name (now (path .entry) .slots) ⌝ }
+    ensures table { λ _. ⌜ 256 ≤ vec-cap (now (places .exit)) ⌝ }
+{
+    clear(places, chart.modes());
+    let mut at = mode;
+    for step in 0..chart.modes() {
+        add(path, at);
+        if closes(left, right, at) {
+            return None;
+        }
+        note(places, at, step + 1);
+        let next = first_way(chart, &inside, at);
+        if let Some(place) = passed(places, next) {
+            return Some(place);
+        }
+        at = next;
+    }
+    add(path, at);
+    None
 }
