@@ -1,2 +1,3 @@
 pub mod Path
 pub mod Criteria
+pub mod Shapes

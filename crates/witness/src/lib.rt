@@ -2,10 +2,14 @@
 mod criterion;
 mod laying;
 mod numbers;
+mod plan;
 mod reading;
 pub mod scratch;
+mod shape;
+
 mod walks;
 mod ways;
 
 pub use scratch::Scratch;
 pub use scratch::Shown;
+
