@@ -4,3 +4,6 @@ mod Counts
 mod Descents
 mod Places
 mod Stays
+mod Lookups
+mod Traces
+pub mod Shows

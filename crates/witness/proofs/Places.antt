@@ -78,6 +78,7 @@ module _ (xs : List ℕ) (m : ℕ) (f : positionOf m xs ≡ length xs) where
       old h =
           place-there (xs ++ m ∷ []) x (positionOf x xs) (lead-old (λ y. not (eqb y x)) m xs h) (simp length-push (omega arith))
           ∙ sym (place-there xs x (positionOf x xs) refl h)
+
       new : length xs ≤ positionOf x xs → placeIn (xs ++ m ∷ []) x ≡ placeIn xs x
       new h =
           let w = within xs x in
@@ -102,6 +103,7 @@ placed-more places xs m f p x h = ⊎-elim same other (cases-eq x m)
   where
     l : x < length places
     l = let e : length (set places m (length xs + 1)) ≡ length places = length-set places m (length xs + 1) in omega arith
+
     same : x ≡ m → getD (set places m (length xs + 1)) x 0 ≡ placeIn (xs ++ m ∷ []) x
     same e =
         let g = l in
@@ -110,6 +112,7 @@ placed-more places xs m f p x h = ⊎-elim same other (cases-eq x m)
         ∙ getD-set-same places m (length xs + 1) 0 i
         ∙ sym (place-last xs m f)
         ∙ ap (placeIn (xs ++ m ∷ [])) (sym e)
+
     other : (x ≡ m → ⊥) → getD (set places m (length xs + 1)) x 0 ≡ placeIn (xs ++ m ∷ []) x
     other n = getD-set-other places m x (length xs + 1) 0 n ∙ p x l ∙ sym (place-other xs m f x n)
 
@@ -123,6 +126,7 @@ placed-found places xs x p out = ⊎-elim inside outside (cases-lt x (length pla
     told : (k : ℕ) → getD places x 0 ≡ k → x < length places → placedAt places x ≡ cond (eqb k 0) None (Some (k - 1))
     told k e h =
         cond-true _ _ _ (lt-ltb x (length places) h) ∙ ap (λ (j : ℕ). cond (eqb j 0) None (Some (j - 1))) e
+
     inside : x < length places → placedAt places x ≡ cond (ltb (positionOf x xs) (length xs)) (Some (positionOf x xs)) None
     inside h = ⊎-elim old new (cases-lt (positionOf x xs) (length xs))
       where
@@ -134,10 +138,12 @@ placed-found places xs x p out = ⊎-elim inside outside (cases-lt x (length pla
             ∙ cond-false (eqb (k + 1) 0) None (Some ((k + 1) - 1)) (ne-eqb (k + 1) 0 (λ q. omega arith))
             ∙ ap Some z
             ∙ sym (cond-true (ltb k (length xs)) (Some k) None (lt-ltb k (length xs) i))
+
         new : length xs ≤ positionOf x xs → placedAt places x ≡ cond (ltb (positionOf x xs) (length xs)) (Some (positionOf x xs)) None
         new i =
             told 0 (p x h ∙ place-missing xs x i) h
             ∙ sym (cond-false (ltb (positionOf x xs) (length xs)) (Some (positionOf x xs)) None (le-ltb (positionOf x xs) (length xs) i))
+
     outside : length places ≤ x → placedAt places x ≡ cond (ltb (positionOf x xs) (length xs)) (Some (positionOf x xs)) None
     outside h =
         let o = out h in

@@ -118,6 +118,7 @@ module _ (μ : Meaning) (closes inside : ℕ → Bool) where
         where
           in-chart : at < size μ → (positionOf x (before ++ at ∷ []) ≡ 0) × (0 < length (before ++ at ∷ []))
           in-chart i = let k = way-inside μ l inside at i in absurd (omega arith)
+
           past : size μ ≤ at → (positionOf x (before ++ at ∷ []) ≡ 0) × (0 < length (before ++ at ∷ []))
           past i =
               let p = ap (λ (y : ℕ). positionOf y (before ++ at ∷ [])) (e ∙ way-outside μ inside at i) ∙ position-last before at (w .unpassed) ∙ w .long ∙ w .begun i in

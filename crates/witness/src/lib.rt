@@ -6,10 +6,10 @@ mod plan;
 mod reading;
 pub mod scratch;
 mod shape;
-
+pub mod showing;
 mod walks;
 mod ways;
 
 pub use scratch::Scratch;
 pub use scratch::Shown;
-
+pub use showing::show;

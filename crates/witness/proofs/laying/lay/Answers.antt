@@ -28,9 +28,9 @@ loop-mode-again c =
     let s = c .loop-mode .path in
     let h = taken c in (
       laid-next (c .in-Some .mode) (s .count) (c .len .result) (held (s .count) (now (s .slots)))
-      (held (c .pop .last .self .count) (now (c .pop .last .self .slots))) (c .loop-mode .out)
-      (sym (c .in-Some .is) ∙ c .pop .ensures .value) (c .pop .ensures .holds) (long c)
-      (c .len .ensures ∙ c .pop .ensures .count) (c .loop-mode .inv .1)
-      ∙ c .loop-mode .inv .0,
-      simp length-set (omega arith),
+          (held (c .pop .last .self .count) (now (c .pop .last .self .slots))) (c .loop-mode .out)
+          (sym (c .in-Some .is) ∙ c .pop .ensures .value) (c .pop .ensures .holds) (long c)
+          (c .len .ensures ∙ c .pop .ensures .count) (c .loop-mode .inv .1 .0)
+          ∙ c .loop-mode .inv .0,
+      (simp length-set (omega arith), c .pop .ensures .lender ∙ c .loop-mode .inv .1 .1),
     )

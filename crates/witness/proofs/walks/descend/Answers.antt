@@ -10,7 +10,7 @@ pub loop-number-again : need.loop-number-again
 loop-number-again g c =
     let l = c .loop-number in (
       descent-more (g .C·Chart .meaning (c .args .chart .now)) (c .args .numbers .now) (pathOn (l .path)) (pathOn (c .add .last .path)) (l .number) (l .at) (c .first-way-at .result) (omega arith) (c .add .ensures .holds) (c .first-way-at .ensures)
-      ∙ l .inv .0,
+          ∙ l .inv .0,
       (omega arith, c .add .ensures .lender ∙ l .inv .1 .1),
     )
 

@@ -25,10 +25,10 @@ moved μ p q m at k xs ys places table e f w =
 
 pub loop-step-holds : need.loop-step-holds
 loop-step-holds g c = (
-      walking-first (g .C·Chart .meaning (c .args .chart .now)) (bothRead (c .args .left) (c .args .right)) (readBy (c .args .inside)) (c .args .mode) (c .modes .result) (pathOn (c .args .path .now)) (vec-items (c .clear .last .table))
+  walking-first (g .C·Chart .meaning (c .args .chart .now)) (bothRead (c .args .left) (c .args .right)) (readBy (c .args .inside)) (c .args .mode) (c .modes .result) (pathOn (c .args .path .now)) (vec-items (c .clear .last .table))
       (c .pre .empty) (c .modes .ensures) (c .clear .ensures .items),
-      (c .pre .none, (c .pre .room, (omega arith, refl))),
-    )
+  (c .pre .none, (c .pre .room, (omega arith, refl))),
+)
 
 pub returns-then-closes : need.returns-then-closes
 returns-then-closes g c =
