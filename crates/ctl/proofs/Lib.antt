@@ -1,0 +1,14 @@
+pub mod Over
+pub mod Chains
+pub mod Iterates
+pub mod Members
+pub mod Forms
+pub mod Steady
+pub mod Settled
+pub mod PathsLists
+pub mod PathsReach
+pub mod PathsWalk
+pub mod PathsStay
+pub mod PathsFacts
+pub mod PathsProve
+pub mod PathsLaws

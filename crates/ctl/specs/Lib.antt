@@ -7,3 +7,4 @@ pub mod Lines
 pub mod Rounds
 pub mod Paths
 pub mod Laws
+pub mod PathLaws
