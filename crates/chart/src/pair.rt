@@ -1,10 +1,9 @@
 // Two charts side by side, of which one moves at a time: its ways are the left ways with the right mode kept, then the
 // right ways with the left mode kept. Where that is too large for a chart, the pair means the idle chart.
-ghost use Prim.Native.Nat.{_*_, _+_, _/_, _<_, _≤_};
+ghost use Prim.Native.Nat.{_*_, _+_, _/_, _<_};
 ghost use Rattle.chart.specs.Pairs.{fitted, moverAt, pair-lawful, sidesAt};
 ghost use Rattle.ctl.specs.Chart.{fitting, pair, pairRow, size};
 ghost use Rattle.std.specs.Finite.{nth};
-ghost use lib.Dec.{T};
 ghost use mathlib.Core.Bool.{true};
 ghost use mathlib.Core.Path.{_≡_};
 use super::chart::Chart;

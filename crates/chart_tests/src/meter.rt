@@ -1,7 +1,7 @@
 // The example meter: modes 0 vacant, 1 hired, 2 paying, each with a mark of its own; ways 0 to 0 and 1, 1 to 1 and 2, 2 to 0.
 use chart::Chart;
 
-pub const METER: [u8; 36] = [
+pub(crate) const METER: [u8; 36] = [
     0x4D,
     0x43,
     0x48,
@@ -41,7 +41,7 @@ pub const METER: [u8; 36] = [
 ];
 
 // The file with one byte of its own.
-pub fn edited(at: usize, byte: u8) -> [u8; 36] {
+pub(crate) fn edited(at: usize, byte: u8) -> [u8; 36] {
     let mut file = METER;
     if at < 36 {
         file[at] = byte;
@@ -50,7 +50,7 @@ pub fn edited(at: usize, byte: u8) -> [u8; 36] {
 }
 
 // The ways out of a mode are these, and no more.
-pub fn ways_are<C: Chart>(chart: &C, mode: u16, ways: &[u16]) -> bool {
+pub(crate) fn ways_are<C: Chart>(chart: &C, mode: u16, ways: &[u16]) -> bool {
     for (place, way) in ways.iter().enumerate() {
         if chart.way(mode, place) != Some(*way) {
             return false;
@@ -60,7 +60,7 @@ pub fn ways_are<C: Chart>(chart: &C, mode: u16, ways: &[u16]) -> bool {
 }
 
 // Of all marks, these stand at the mode.
-pub fn marks_are<C: Chart>(chart: &C, mode: u16, marks: &[bool]) -> bool {
+pub(crate) fn marks_are<C: Chart>(chart: &C, mode: u16, marks: &[bool]) -> bool {
     for (mark, standing) in marks.iter().enumerate() {
         if chart.stands(mark, mode) != *standing {
             return false;
@@ -70,21 +70,27 @@ pub fn marks_are<C: Chart>(chart: &C, mode: u16, marks: &[bool]) -> bool {
 }
 
 // Modes, marks, width and start.
-pub fn size_is<C: Chart>(chart: &C, modes: u16, marks: usize, width: usize, start: u16) -> bool {
+pub(crate) fn size_is<C: Chart>(
+    chart: &C,
+    modes: u16,
+    marks: usize,
+    width: usize,
+    start: u16,
+) -> bool {
     chart.modes() == modes
         && chart.marks() == marks
         && chart.width() == width
         && chart.start() == start
 }
 
-pub fn is_idle<C: Chart>(chart: &C) -> bool {
+pub(crate) fn is_idle<C: Chart>(chart: &C) -> bool {
     size_is(chart, 1, 0, 1, 0)
         && ways_are(chart, 0, &[0])
         && ways_are(chart, 1, &[])
         && marks_are(chart, 0, &[])
 }
 
-pub fn is_meter<C: Chart>(chart: &C) -> bool {
+pub(crate) fn is_meter<C: Chart>(chart: &C) -> bool {
     size_is(chart, 3, 3, 2, 0) && meter_ways(chart) && meter_marks(chart)
 }
 
