@@ -11,7 +11,6 @@ use ctl::Connective;
 use ctl::Quantifier;
 use ctl::Rule;
 use ctl::Temporal;
-use ctl::rule::RuleDebug;
 use ctl::rule::RulePartialEq;
 use property::BinaryOperator;
 use property::Part;
@@ -20,38 +19,65 @@ use rounds::Line;
 use std::alloc::Global;
 use std::test::*;
 
-// Sixty-four places for lines.
-fn places(heap: Global) -> Result<Vec<Line>, Fail> {
-    let mut lines = Vec::new(heap);
-    for _ in 0..64 {
-        if lines.push(Line::new(heap)?).is_err() {
-            return Err(Fail::new("no memory"));
+// Sixty-four places for lines, with their counts.
+#[derive(Drop)]
+struct Bench {
+    chart: CounterChart,
+    lines: Vec<Line>,
+    tally: Tally,
+    scratch: Scratch,
+}
+
+impl Bench {
+    fn new(heap: Global) -> Result<Bench, Refusal> {
+        let chart = CounterChart::new(4)?;
+        let scratch = Scratch::new(heap)?;
+        let mut lines = Vec::new(heap);
+        for _ in 0..64 {
+            if lines.push(Line::new(heap)?).is_err() {
+                return Err(Refusal::Memory);
+            }
         }
+        let tally = Tally {
+            lines: 0,
+            settled: 0,
+        };
+        Ok(Bench {
+            chart,
+            lines,
+            tally,
+            scratch,
+        })
     }
-    Ok(lines)
+
+    // Whether the parts are answered so, with so many lines written after.
+    fn answers(&mut self, parts: &[Part], answer: Result<usize, Refusal>, count: usize) -> bool {
+        let found = write_lines(
+            &self.chart,
+            parts,
+            &mut self.lines,
+            &mut self.tally,
+            &mut self.scratch,
+        );
+        found == answer && self.tally.lines == count
+    }
 }
 
 // So many names, each joined to those before it: one line for each name, and one for each join.
-fn joined(heap: Global, names: usize) -> Result<Vec<Part>, Fail> {
+fn joined(heap: Global, names: usize) -> Vec<Part> {
     let mut parts = Vec::new(heap);
     for k in 0..names {
-        let or = Part::Binary(BinaryOperator::Join(Connective::Or));
-        if parts.push(Part::Name(k)).is_err() || k > 0 && parts.push(or).is_err() {
-            return Err(Fail::new("no memory"));
+        let _ = parts.push(Part::Name(k));
+        if k > 0 {
+            let _ = parts.push(Part::Binary(BinaryOperator::Join(Connective::Or)));
         }
     }
-    Ok(parts)
+    parts
 }
 
 #[test]
 fn nested_property(rt: LibcRuntime) -> Result<(), Fail> {
-    let chart = CounterChart::new(4)?;
-    let mut lines = places(rt.alloc())?;
-    let mut scratch = Scratch::new(rt.alloc())?;
-    let mut tally = Tally {
-        lines: 0,
-        settled: 0,
-    };
+    let mut bench = Bench::new(rt.alloc())?;
     // AG(!a|EFb)
     let parts = [
         Part::Name(0),
@@ -70,43 +96,21 @@ fn nested_property(rt: LibcRuntime) -> Result<(), Fail> {
         Rule::Join(Connective::Or, 1, 4),
         Rule::Path(Temporal::Release, Quantifier::Forall, 0, 5),
     ];
-    let line = write_lines(&chart, &parts, &mut lines, &mut tally, &mut scratch);
-    check_eq(line, Ok(6))?;
-    check_eq(tally.lines, 7)?;
-    for (line, rule) in lines.iter().zip(rules.iter()) {
-        check_eq(line.rule, *rule)?;
+    check(bench.answers(&parts, Ok(6), 7))?;
+    check(bench.answers(&parts, Ok(6), 7))?;
+    for (line, rule) in bench.lines.iter().zip(rules.iter()) {
+        check(line.rule == *rule)?;
     }
-    let again = write_lines(&chart, &parts, &mut lines, &mut tally, &mut scratch);
-    check_eq(again, Ok(6))?;
-    check_eq(tally.lines, 7)
+    Ok(())
 }
 
 #[test]
 fn no_sixty_fifth_line(rt: LibcRuntime) -> Result<(), Fail> {
-    let chart = CounterChart::new(4)?;
-    let mut lines = places(rt.alloc())?;
-    let mut scratch = Scratch::new(rt.alloc())?;
-    let mut tally = Tally {
-        lines: 0,
-        settled: 0,
-    };
-    let over = joined(rt.alloc(), 33)?;
-    let refused = write_lines(&chart, &over, &mut lines, &mut tally, &mut scratch);
-    check_eq(refused, Err(Refusal::SheetFull))?;
-    check_eq(tally.lines, 0)?;
-    let fits = joined(rt.alloc(), 32)?;
-    let accepted = write_lines(&chart, &fits, &mut lines, &mut tally, &mut scratch);
-    check_eq(accepted, Ok(62))?;
-    let refused = write_lines(&chart, &over, &mut lines, &mut tally, &mut scratch);
-    check_eq(refused, Err(Refusal::SheetFull))?;
-    check_eq(tally.lines, 63)?;
-    let last = write_lines(
-        &chart,
-        &[Part::Name(32)],
-        &mut lines,
-        &mut tally,
-        &mut scratch,
-    );
-    check_eq(last, Ok(63))?;
-    check_eq(tally.lines, 64)
+    let mut bench = Bench::new(rt.alloc())?;
+    let full = Err(Refusal::SheetFull);
+    let over = joined(rt.alloc(), 33);
+    check(bench.answers(&over, full, 0))?;
+    check(bench.answers(&joined(rt.alloc(), 32), Ok(62), 63))?;
+    check(bench.answers(&over, full, 63))?;
+    check(bench.answers(&[Part::Name(32)], Ok(63), 64))
 }

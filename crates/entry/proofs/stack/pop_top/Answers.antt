@@ -1,11 +1,8 @@
-use Prim.Native.Nat.{_-_}
 use mathlib.Core.Path.{_≡_, ap, _∙_}
-use mathlib.Core.Bool.{Bool}
 use lib.Dec.{ltb}
 use lib.ListN.{length}
-use native.Mathlib.Omega.{arith}
 use Rattle.std.specs.Options.{isSome}
-use Rattle.std.specs.Of.Vec.{vec-items, vec-len}
+use Rattle.std.specs.Of.Vec.{vec-items}
 use Rattle.entry.specs.Steps.{stacked}
 use Rattle.entry.proofs.Stacked.{popped-value, popped-holds}
 use Rattle.entry.proofs.stack.pop_top.Needs as need
