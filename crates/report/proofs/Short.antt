@@ -1,15 +1,12 @@
 -- Each line of a report has at most 100 bytes.
-use Prim.Native.Nat.{ℕ, _+_, _^_, _<_, _≤_}
-use mathlib.Core.List.{List, [], _∷_, _++_}
+use Prim.Native.Nat.{ℕ, _^_, _<_, _≤_}
 use native.Mathlib.Omega.{arith}
-use lib.Chars.{codes}
 use lib.Dec.{lit≤}
 use lib.ListN.{length, length-append}
-use Rattle.std.specs.Written.{decimal}
 use Rattle.ctl.specs.declared.rule.Verdict.{Verdict}
 use Rattle.ctl.specs.declared.rule.Verdict.the-variants.{Yes, No, Pending}
 use Rattle.basis.proofs.Figures.{count-bound}
-use Rattle.report.specs.Reports.{wordOf, headingLine, entryLine, totalText, totalLine}
+use Rattle.report.specs.Reports.{wordOf, headingLine, entryLine, totalLine}
 
 pub heading-short : (modes marks start : ℕ) → modes < 2 ^ 64 → marks < 2 ^ 64 → start < 2 ^ 64 → length (headingLine modes marks start) ≤ 100
 heading-short modes marks start a b d =

@@ -8,8 +8,8 @@ use basis::Piece;
 
 mod calls;
 
-// The pieces of the lines so far, line ends among them, and how many rows stand. There is room for the heading, 32 rows and the total,
-// so that only making a draft takes memory.
+// The pieces of the lines so far, line ends among them, and how many rows stand. There is room for the heading, 32 rows
+// and the total, so that only making a draft takes memory.
 #[derive(Drop)]
 pub struct Draft {
     pieces: Vec<Piece<'static>>,

@@ -1,10 +1,9 @@
 // Drafting a report, and writing it.
 ghost use Prim.Native.Nat.{_+_, _≤_};
-ghost use Rattle.basis.specs.Lines.{answered, overlaid, spelling};
+ghost use Rattle.basis.specs.Lines.{answered, overlaid};
 ghost use Rattle.basis.specs.declared.refusal.Refusal.the-variants.{Memory};
 ghost use Rattle.report.specs.Drafts.{drafted, standing};
 ghost use Rattle.report.specs.Reports.{counted, headingLine, rowed, totalLine};
-ghost use Rattle.std.specs.Joined.{joined};
 ghost use Rattle.std.specs.Of.Vec.{vec-cap, vec-items, vec-len};
 ghost use Rattle.std.specs.declared.result.Result.the-variants.{Err, Ok};
 ghost use lib.ListN.{length};
@@ -60,10 +59,10 @@ impl Draft {
         ensures text { λ _. ⌜ drafted (now (self .exit)) ≡ drafted (now (self .entry)) ⌝ }
         ensures count { λ _. ⌜ standing (now (self .exit)) ≡ standing (now (self .entry)) ⌝ }
     {
-        let drafted = self.pieces.len();
+        let before = self.pieces.len();
         append(&mut self.pieces, &total(rounds, most));
         let answer = put_line(out, &self.pieces);
-        self.pieces.truncate(drafted);
+        self.pieces.truncate(before);
         answer
     }
 }

@@ -1,10 +1,10 @@
-use Prim.Native.Nat.{ℕ, _^_, _<_, _≤_}
+use Prim.Native.Nat.{_^_, _<_, _≤_}
 use mathlib.Core.Path.{_≡_, refl, ap, _∙_}
-use mathlib.Core.List.{List, _++_}
+use mathlib.Core.List.{_++_}
 use native.Mathlib.Omega.{arith}
 use lib.ListN.{length, take, length-append}
 use Rattle.std.specs.Joined.{joined}
-use Rattle.std.specs.Of.Vec.{vec-items, vec-len}
+use Rattle.std.specs.Of.Vec.{vec-items}
 use Rattle.std.proofs.shelf.Lists.{take-at}
 use Rattle.basis.specs.Lines.{spelling, lineOf, written, overlaid}
 use Rattle.basis.proofs.Pieces.{written-answered}
@@ -16,7 +16,7 @@ use Rattle.report.proofs.draft.Draft.write.Needs as need
 pub ghost-self : need.ghost-self
 ghost-self c =
     let before = vec-items (c .args .self .now .pieces) in
-    let n = c .len-drafted .result in
+    let n = c .len-before .result in
     let long : length before ≡ n = omega (arith, c .args .self .now .pieces .ok .0) in
     let stays : vec-items (c .truncate .last .self) ≡ before =
     c .truncate .ensures .items ∙ (ap (take n) (c .append .ensures .items) ∙ take-at before (c .total .result) n long)
@@ -29,7 +29,7 @@ returns c =
     let text = joined spelling before in
     let rounds = c .args .rounds in
     let most = c .args .most in
-    let n = c .len-drafted .result in
+    let n = c .len-before .result in
     let room = length (c .args .out .now) in
     let long : length before ≡ n = omega (arith, c .args .self .now .pieces .ok .0) in
     let stays : vec-items (c .truncate .last .self) ≡ before =
