@@ -1,10 +1,13 @@
 -- What a stack over a slice holds after one more element, and how its newest is read.
 use Prim.Native.Nat.{ℕ, _+_, _-_, _<_, _≤_}
 use mathlib.Core.Path.{_≡_, refl, ap, _∙_, sym}
+use mathlib.Core.Logic.{inl, inr}
 use mathlib.Core.List.{List, [], _∷_, _++_, reverse}
 use native.Mathlib.Omega.{arith}
 use lib.ListN.{length, take, set, getD}
 use Rattle.std.proofs.shelf.Lists.{take-more, take-more-set, reverse-append, length-reverse, length-take-le}
+use Rattle.std.proofs.shelf.Tests.{cases-eq}
+use Rattle.std.specs.declared.option.Option.{Option}
 use Rattle.std.specs.declared.option.Option.the-variants.{Some, None}
 use Rattle.basis.specs.Stacks.{held, newest, older}
 
@@ -41,3 +44,14 @@ newest-some n xs d ne h = sym (ap newest (held-back n xs d ne h))
 
 pub older-some : {X : Type 0} (n : ℕ) (xs : List X) (d : X) → (n ≡ 0 → ⊥) → n ≤ length xs → held (n - 1) xs ≡ older (held n xs)
 older-some n xs d ne h = sym (ap older (held-back n xs d ne h))
+
+-- the last of the first n, if there is one
+pub newest-by :
+    {X : Type 0} (n : ℕ) (xs : List X) (r : Option X) → n ≤ length xs → (n ≡ 0 → r ≡ None)
+    → ((n ≡ 0 → ⊥) → (d : X) → r ≡ Some (getD xs (n - 1) d)) → r ≡ newest (held n xs)
+newest-by n [] r h a b = let e : n ≡ 0 = omega arith in a e ∙ newest-none n [] e
+newest-by n (x ∷ xs) r h a b =
+    elim (cases-eq n 0) [
+      | inl e ↦ a e ∙ newest-none n (x ∷ xs) e
+      | inr e ↦ b e x ∙ newest-some n (x ∷ xs) x e h
+    ]

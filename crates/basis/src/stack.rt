@@ -1,11 +1,12 @@
 // A stack over a slice that its owner lends: one struct for every kind of element.
-ghost use Prim.Native.Nat.{ℕ, _≤_, _+_, _-_};
+ghost use Prim.Native.Nat.{ℕ, _≤_, _<_, _+_, _-_};
 ghost use lib.Dec.{ltb};
-ghost use lib.ListN.{length, set};
+ghost use lib.ListN.{length, set, getD};
 ghost use mathlib.Core.Bool.{cond};
 ghost use mathlib.Core.List.{_∷_, []};
 ghost use mathlib.Core.Path.{_≡_};
 ghost use Rattle.basis.specs.Stacks.{held, newest, older};
+ghost use Rattle.std.specs.declared.option.Option.the-variants.{Some, None};
 ghost use Rattle.std.specs.declared.result.Result.the-variants.{Ok, Err};
 ghost use denote.Ref.{name, now};
 
@@ -31,7 +32,8 @@ impl<'a, T: Copy> Stack<'a, T> {
     pub fn len(&self) -> usize
         ensures { λ r. ⌜ r ≡ now (self .entry) .count ⌝ }
     {
-        self.count
+        let Stack { count, .. } = self;
+        *count
     }
 
     // Puts one element on top; a full stack hands it back and stays as it was.
@@ -44,12 +46,22 @@ impl<'a, T: Copy> Stack<'a, T> {
         ensures lender { λ _. ⌜ name (now (self .exit) .slots) ≡ name (now (self .entry) .slots) ⌝ }
     {
         if self.count < self.slots.len() {
-            self.slots[self.count] = element;
-            self.count += 1;
+            self.store(element);
             Ok(())
         } else {
             Err(element)
         }
+    }
+
+    // Puts one element on top, where there is room.
+    fn store(&mut self, element: T)
+        requires { ⌜ now self .count < length (now (now self .slots)) ⌝ }
+        ensures slots { λ _. ⌜ now (now (self .exit) .slots) ≡ set (now (now (self .entry) .slots)) (now (self .entry) .count) element ⌝ }
+        ensures count { λ _. ⌜ now (self .exit) .count ≡ now (self .entry) .count + 1 ⌝ }
+        ensures lender { λ _. ⌜ name (now (self .exit) .slots) ≡ name (now (self .entry) .slots) ⌝ }
+    {
+        self.slots[self.count] = element;
+        self.count += 1;
     }
 
     // Takes the newest element off.
@@ -75,10 +87,11 @@ impl<'a, T: Copy> Stack<'a, T> {
     }
 }
 
-// The newest of the first `count` elements.
+// The last of the first `count` elements.
 fn last_of<T: Copy>(slots: &[T], count: usize) -> Option<T>
     requires { ⌜ count ≤ length (now slots) ⌝ }
-    ensures { λ r. ⌜ r ≡ newest (held count (now (slots .entry))) ⌝ }
+    ensures none { λ r. ⌜ (count ≡ 0 → r ≡ None) ⌝ }
+    ensures some { λ r. ⌜ ((count ≡ 0 → ⊥) → (d : T) → r ≡ Some (getD (now (slots .entry)) (count - 1) d)) ⌝ }
 {
     if count == 0 {
         return None;

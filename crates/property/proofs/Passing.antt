@@ -13,7 +13,7 @@ use denote.Ref.{RefT, now}
 use Rattle.std.specs.declared.option.Option.{Option}
 use Rattle.std.specs.declared.option.Option.the-variants.{Some}
 use Rattle.basis.specs.Stacks.{newest, older}
-use Rattle.property.specs.Words.{frontOf}
+use Rattle.property.specs.Words.{frontOf, isLetter, lettersOf}
 use Rattle.property.specs.Lists.{grown, pieces, firstPiece, behind, remaining}
 
 pub front-more :
@@ -43,13 +43,9 @@ front-take p (b ∷ bs) =
           ∙ sym (cond-false (p b) (b ∷ frontOf p bs) [] h)
     ]
 
-pub front-within : (p : ℕ → Bool) (xs : List ℕ) → length (frontOf p xs) ≤ length xs
-front-within p [] = omega arith
-front-within p (b ∷ bs) =
-    elim (cases-bool (p b)) [
-      | inl h ↦ let l = ap length (cond-true (p b) (b ∷ frontOf p bs) [] h) in let w = front-within p bs in omega arith
-      | inr h ↦ let l = ap length (cond-false (p b) (b ∷ frontOf p bs) [] h) in omega arith
-    ]
+pub row-taken : (t : List ℕ) (a n : ℕ) → n ≡ a + length (lettersOf (drop a t)) → take (n - a) (drop a t) ≡ lettersOf (drop a t)
+row-taken t a n e =
+    ap (λ k. take k (drop a t)) (let d : n - a ≡ length (lettersOf (drop a t)) = omega arith in d) ∙ front-take isLetter (drop a t)
 
 -- the pieces: the first, and those behind its comma
 behind-later : (b e : ℕ) (bs : List ℕ) → behind e bs ≡ behind (suc e) (b ∷ bs)

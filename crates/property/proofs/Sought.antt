@@ -15,7 +15,7 @@ use Rattle.std.specs.declared.option.Option.{Option}
 use Rattle.std.specs.declared.option.Option.the-variants.{Some, None}
 use Rattle.basis.specs.Stacks.{newest, older}
 use Rattle.property.specs.Words.{isLetter, lettersOf}
-use Rattle.property.specs.Lists.{grown, pieces, listed, placeFrom, placeOf, allLetters, proper, isAt, sound}
+use Rattle.property.specs.Lists.{grown, pieces, listed, placeFrom, allLetters, proper}
 
 pub decided : (x y : List ℕ) (r : Bool) → Decides r (x ≡ y) → r ≡ sameBytes x y
 decided x y true d = sym (sameBytes-decides x y .1 (d .0 refl))
@@ -28,10 +28,6 @@ decided x y false d =
 pub first-is : (ps : List (List ℕ)) (x : List ℕ) → Some x ≡ newest ps → ps ≡ x ∷ older ps
 first-is [] x e = absurd (let z : _≡_ {A = ℕ} 0 1 = cc in omega arith)
 first-is (p ∷ ps) x e = ap (λ y. y ∷ ps) (let h : p ≡ x = cc in h)
-
-pub first-none : (ps : List (List ℕ)) → None ≡ newest ps → ps ≡ []
-first-none [] e = refl
-first-none (p ∷ ps) e = absurd (let z : _≡_ {A = ℕ} 0 1 = cc in omega arith)
 
 pub seek-here : (k : ℕ) (ls : List ℕ) (ps : List (List ℕ)) (x : List ℕ) → Some x ≡ newest ps → true ≡ sameBytes x ls → Some k ≡ placeFrom k ls ps
 seek-here k ls ps x e s =
@@ -89,11 +85,3 @@ proper-is n end (a, b) e =
       | inl h ↦ let w = row-whole n h in eq-eqb end (length n) (omega arith) ∙ (sym h ∙ q)
       | inr h ↦ let w = row-short n h in ne-eqb end (length n) (λ f. omega arith) ∙ (sym h ∙ q)
     ]
-
--- a name that is not proper, or used before, spoils the list
-pub unsound :
-    (all : List (List ℕ)) (k : ℕ) (ps : List (List ℕ)) (x : List ℕ) (p f : Bool) → Some x ≡ newest ps → p ≡ proper x
-    → f ≡ isAt k (placeOf x all) → (p && f) ≡ false → sound all k ps ≡ false
-unsound all k ps x p f e a b h =
-    ap (sound all k) (first-is ps x e)
-    ∙ ap (λ y. y && sound all (k + 1) (older ps)) (ap (λ y. y && isAt k (placeOf x all)) (sym a) ∙ (ap (λ y. p && y) (sym b) ∙ h))

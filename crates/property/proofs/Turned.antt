@@ -20,12 +20,7 @@ use Rattle.property.specs.declared.tokens.Capital.{Capital}
 use Rattle.property.specs.declared.tokens.Capital.the-variants.{Plain, After}
 use Rattle.property.specs.Words.{Word, letters, capital, spelling, isLetter, lettersOf, found, singles, capitals, completions, Formed, none, fault, made, orFault, begun, form}
 use Rattle.property.specs.Forming.{waiting, unread, placeIn, Turn, name, wait, whole, nothing, orNothing, orWait, turnOf, answerTo, taken}
-use Rattle.property.proofs.Passing.{front-take}
 use Rattle.property.proofs.Scanned.{found-all, Single, Second, all-singles, all-completions, all-capitals}
-
-pub row-taken : (t : List ℕ) (a n : ℕ) → n ≡ a + length (lettersOf (drop a t)) → take (n - a) (drop a t) ≡ lettersOf (drop a t)
-row-taken t a n e =
-    ap (λ k. take k (drop a t)) (let d : n - a ≡ length (lettersOf (drop a t)) = omega arith in d) ∙ front-take isLetter (drop a t)
 
 -- a capital in front of the text
 form-capital : (q : Quantifier) (b : ℕ) (bs : List ℕ) → form (capital q ∷ (b ∷ bs)) ≡ orFault 1 (found b (completions q))

@@ -8,6 +8,10 @@ pub mod reading;
 pub mod shape;
 pub mod tokens;
 
+pub use names::check_names;
+pub use postfix::Parts;
+pub use reader::TokenReader;
+pub use reading::read;
 pub use shape::BinaryOperator;
 pub use shape::Part;
 pub use shape::UnaryOperator;

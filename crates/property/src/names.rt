@@ -1,6 +1,6 @@
 // The list of names: name k is mark k. Names are looked up in the list as it is lent, without a copy.
-ghost use Prim.Native.Nat.{ℕ, _≤_, _+_};
-ghost use lib.ListN.{length, drop};
+ghost use Prim.Native.Nat.{ℕ, _≤_, _+_, _-_};
+ghost use lib.ListN.{length, take, drop};
 ghost use mathlib.Core.Bool.{cond};
 ghost use mathlib.Core.Path.{_≡_};
 ghost use Rattle.basis.specs.Stacks.{newest, older};
@@ -73,8 +73,9 @@ fn is_proper(name: &[u8]) -> bool
 }
 
 // The end of the longest row of letters a to z that begins at a place.
-pub fn letters_end(text: &[u8], from: usize) -> usize
+pub(crate) fn letters_end(text: &[u8], from: usize) -> usize
     ensures value { λ r. ⌜ r ≡ from + length (lettersOf (drop from (now (text .entry)))) ⌝ }
+    ensures row { λ r. ⌜ take (r - from) (drop from (now (text .entry))) ≡ lettersOf (drop from (now (text .entry))) ⌝ }
     ensures within { λ r. ⌜ (from ≤ length (now (text .entry)) → r ≤ length (now (text .entry))) ⌝ }
 {
     let mut end = from;
@@ -85,7 +86,7 @@ pub fn letters_end(text: &[u8], from: usize) -> usize
 }
 
 // The mark of a name: its first place in the list.
-pub fn find(list: &[u8], letters: &[u8]) -> Option<usize>
+pub(crate) fn find(list: &[u8], letters: &[u8]) -> Option<usize>
     ensures { λ r. ⌜ r ≡ placeOf (now (letters .entry)) (listed (now (list .entry))) ⌝ }
 {
     let mut names = NamesLeft::of(list);

@@ -1,19 +1,24 @@
-use mathlib.Core.Path.{refl, sym, _∙_}
-use lib.ListN.{length-set}
-use Rattle.std.proofs.shelf.Tests.{cond-below, cond-above}
+use mathlib.Core.Path.{refl, sym, ap, _∙_}
+use denote.Ref.{now}
+use lib.ListN.{length, length-set}
 use Rattle.std.proofs.shelf.Lists.{set-past}
+use Rattle.std.proofs.shelf.Tests.{cond-below, cond-above}
+use Rattle.basis.specs.Stacks.{held}
 use Rattle.basis.proofs.Stacked.{held-set}
 use Rattle.basis.proofs.stack.Stack.push.Needs as need
 
 pub returns-then-self : need.returns-then-self
 returns-then-self g c =
+    let s = c .store .ensures in
     record {
       value = cond-below _ _ _ _ (c .if-self .taken);
-      holds = held-set _ _ _ (c .if-self .taken) ∙ cond-below _ _ _ _ (c .if-self .taken);
-      count = cond-below _ _ _ _ (c .if-self .taken);
-      slots = refl;
-      room = length-set _ _ _;
-      lender = refl;
+      holds =
+          ap (λ n. held n (now (c .store .last .self .slots))) (s .count)
+          ∙ (ap (held _) (s .slots) ∙ (held-set _ _ _ (c .if-self .taken) ∙ cond-below _ _ _ _ (c .if-self .taken)));
+      count = s .count ∙ cond-below _ _ _ _ (c .if-self .taken);
+      slots = s .slots;
+      room = ap length (s .slots) ∙ length-set _ _ _;
+      lender = s .lender;
     }
 
 pub returns-else-self : need.returns-else-self
