@@ -1,6 +1,6 @@
 // A line of text is a row of pieces and a line end. It is written into a caller's buffer whole or not at all.
 // `specs/Lines.antt` says which bytes a line has and what the buffer holds after it.
-ghost use Prim.Native.Nat.{ℕ, _+_, _<_, _≤_};
+ghost use Prim.Native.Nat.{_+_, _<_, _≤_};
 ghost use Rattle.basis.specs.Lines.{laid, lineOf, overlaid, representable, spelling, written};
 ghost use Rattle.std.specs.Vec.{made};
 ghost use Rattle.std.specs.Written.{decimal};

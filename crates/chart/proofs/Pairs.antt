@@ -1,8 +1,8 @@
 -- The questions of a pair answer the pair of the meanings.
 use Prim.Native.Nat.{ℕ, _+_, _*_, _-_, _/_, _%_, _≤_, _<_}
-use mathlib.Core.Path.{_≡_, refl, sym, ap, _∙_}
-use mathlib.Core.Bool.{Bool, true, false, cond}
-use mathlib.Core.List.{List, [], _∷_, _++_, map}
+use mathlib.Core.Path.{_≡_, sym, ap, _∙_}
+use mathlib.Core.Bool.{true}
+use mathlib.Core.List.{List, _++_, map}
 use mathlib.Core.Logic.{⊎-elim}
 use native.Mathlib.Omega.{arith}
 use native.Mathlib.Nat.{div-lt-iff-lt-mul}
@@ -16,10 +16,9 @@ use Rattle.std.proofs.iter.runs.Lists.{nth-left, nth-right, nth-map, nth-read, 
 use Rattle.std.proofs.shelf.Bits.{mod-below}
 use Rattle.std.proofs.shelf.Lists.{getD-past, length-map}
 use Rattle.std.proofs.shelf.Tests.{cases-lt, cond-true, cond-false, lt-ltb, le-ltb}
-use Rattle.chart.specs.declared.side.Side.{Side}
 use Rattle.chart.specs.declared.side.Side.the-variants.{Left, Right}
 use Rattle.chart.specs.Pairs.{moverAt, sidesAt, joined-size, joined-row}
-use Rattle.ctl.specs.Chart.{Row, Meaning, blank, size, row, waysOf, degree, wayAt, idle, pairRow, joined, fitting, pair, Lawful}
+use Rattle.ctl.specs.Chart.{Meaning, blank, size, row, waysOf, degree, wayAt, idle, pairRow, joined, fitting, pair, Lawful}
 
 -- a way leads to a mode of the chart
 pub way-below : (μ : Meaning) → Lawful μ → (i p x : ℕ) → i < size μ → Some x ≡ wayAt μ i p → x < size μ

@@ -1,21 +1,20 @@
 -- The questions of a filed chart answer the meaning of its records.
-use Prim.Native.Nat.{ℕ, zero, suc, _+_, _/_, _%_, _^_, _≤_, _<_}
-use mathlib.Core.Path.{_≡_, refl, sym, ap, _∙_}
-use mathlib.Core.Bool.{Bool, true, false}
+use Prim.Native.Nat.{ℕ, zero, suc, _/_, _^_, _≤_, _<_}
+use mathlib.Core.Path.{_≡_, sym, ap, _∙_}
+use mathlib.Core.Bool.{false}
 use mathlib.Core.List.{List, [], _∷_, map}
 use native.Mathlib.Omega.{arith}
 use lib.Dec.{eqb}
 use lib.ListN.{length, getD}
 use Rattle.std.specs.Finite.{nth}
 use Rattle.std.specs.Iters.{counting}
-use Rattle.std.specs.declared.option.Option.{Option}
 use Rattle.std.specs.declared.option.Option.the-variants.{Some, None}
 use Rattle.std.proofs.iter.runs.Lists.{nth-read, nth-within, same-some, none-some}
 use Rattle.std.proofs.shelf.Bits.{and-mask}
 use Rattle.std.proofs.shelf.Counted.{length-map-counting, getD-map-counting, fill-by-all}
 use Rattle.std.proofs.shelf.Lists.{getD-map, getD-past, length-map}
 use Rattle.std.proofs.shelf.Maps.{nth-past}
-use Rattle.ctl.specs.Chart.{Row, Meaning, blank, size, row, degree, wayAt, stands}
+use Rattle.ctl.specs.Chart.{blank, size, row, degree}
 use Rattle.chart.specs.declared.record.ModeRecord.{ModeRecord}
 use Rattle.chart.specs.Records.{bit, masked, rowOf, meaningOf}
 

@@ -1,7 +1,7 @@
 -- A file without a fault means a lawful chart.
-use Prim.Native.Nat.{ℕ, zero, suc, _+_, _-_, _*_, _/_, _^_, _≤_, _<_}
-use mathlib.Core.Path.{_≡_, refl, sym, ap, subst, _∙_}
-use mathlib.Core.Bool.{Bool, true, false, cond, _&&_}
+use Prim.Native.Nat.{ℕ, zero, suc, _+_, _/_, _^_, _≤_, _<_}
+use mathlib.Core.Path.{_≡_, refl, sym, ap, _∙_}
+use mathlib.Core.Bool.{Bool, true, false, cond}
 use mathlib.Core.List.{List, map}
 use mathlib.Core.Logic.{⊎-elim}
 use native.Mathlib.Omega.{arith}
@@ -21,7 +21,7 @@ use Rattle.ctl.specs.Chart.{Row, Meaning, blank, size, row, waysOf, degree}
 use Rattle.chart.specs.declared.record.Header.{Header}
 use Rattle.chart.specs.declared.record.ModeRecord.{ModeRecord}
 use Rattle.chart.specs.Records.{bit, rowOf, meaningOf, Bounds, Rows, Inside}
-use Rattle.chart.specs.Files.{signed, headerOf, limited, fileLength, placeOf, degreeAt, wayOf, marksAt, byte, rowAt, fileRow, fileChart, every, lowest, placeSound, placesSound, soundAt, soundIn, unlessSo, fault}
+use Rattle.chart.specs.Files.{signed, headerOf, limited, fileLength, placeOf, degreeAt, wayOf, marksAt, byte, fileRow, fileChart, every, lowest, placeSound, soundAt, soundIn, unlessSo, fault}
 
 -- no fault: each test passed
 passed : (b : Bool) (e : Refusal) (rest : Option Refusal) → unlessSo b e rest ≡ None → (b ≡ true) × (rest ≡ None)

@@ -1,10 +1,9 @@
 // Two charts side by side, of which one moves at a time: its ways are the left ways with the right mode kept, then the
 // right ways with the left mode kept. Where that is too large for a chart, the pair means the idle chart.
-ghost use Prim.Native.Nat.{_*_, _+_, _/_, _<_, _≤_};
+ghost use Prim.Native.Nat.{_*_, _+_, _/_, _<_};
 ghost use Rattle.chart.specs.Pairs.{fitted, moverAt, pair-lawful, sidesAt};
 ghost use Rattle.ctl.specs.Chart.{fitting, pair, pairRow, size};
 ghost use Rattle.std.specs.Finite.{nth};
-ghost use lib.Dec.{T};
 ghost use mathlib.Core.Bool.{true};
 ghost use mathlib.Core.Path.{_≡_};
 use super::chart::Chart;
@@ -87,11 +86,11 @@ impl<L: Chart, R: Chart> Pair<L, R> {
         ensures { λ r. ⌜ r ≡ nth (pairRow (L·Chart .meaning (now (self .entry) .left)) (R·Chart .meaning (now (self .entry) .right)) left right .ways) place ⌝ }
     {
         match self.mover(left, place) {
-            Side::Left(place) => match self.left.way(left, place) {
+            Side::Left(own) => match self.left.way(left, own) {
                 Some(way) => Some(self.mode_of(way, right)),
                 None => None,
             },
-            Side::Right(place) => match self.right.way(right, place) {
+            Side::Right(own) => match self.right.way(right, own) {
                 Some(way) => Some(self.mode_of(left, way)),
                 None => None,
             },

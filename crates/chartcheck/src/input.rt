@@ -8,7 +8,7 @@ use std::io::ErrorKind;
 use std::io::Read;
 
 // How many bytes of `chart.mch` were read, at most as many as the buffer holds. A missing file is empty.
-pub fn read_chart_file(rt: &LibcRuntime, file: &mut [u8]) -> io::Result<usize>
+pub(crate) fn read_chart_file(rt: &LibcRuntime, file: &mut [u8]) -> io::Result<usize>
     ensures { λ r. ⌜ made r (λ n. n ≤ length (now (file .entry))) ⌝ }
 {
     match fs::open(rt, "chart.mch") {

@@ -35,7 +35,7 @@ fn put_summary<C: Chart>(chart: &C, out: &mut [u8]) -> Result<usize, Refusal>
 }
 
 // Opens the file at the place, and lays the line for its chart, or the refusal's line, into `out`.
-pub fn tell(place: &mut FiledChart, file: &[u8], out: &mut [u8]) -> Result<usize, Refusal>
+pub(crate) fn tell(place: &mut FiledChart, file: &[u8], out: &mut [u8]) -> Result<usize, Refusal>
     ensures answer { λ r. ⌜ r ≡ answered (toldLine (now (file .entry))) (length (now (out .entry))) ⌝ }
     ensures buffer { λ _. ⌜ now (out .exit) ≡ overlaid (toldLine (now (file .entry))) (now (out .entry)) ⌝ }
     ensures bound { λ r. ⌜ made r (λ n. n ≤ length (now (out .entry))) ⌝ }

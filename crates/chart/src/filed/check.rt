@@ -11,7 +11,7 @@ use crate::record::Header;
 use basis::Refusal;
 
 // The two bytes at a place, the high one first.
-pub fn number(file: &[u8], at: usize) -> u16
+pub(super) fn number(file: &[u8], at: usize) -> u16
     requires { ⌜ at + 1 < length (now file) ⌝ }
     ensures { λ r. ⌜ r ≡ numberAt (now (file .entry)) at ⌝ }
 {
@@ -60,7 +60,7 @@ impl Header {
     }
 
     // Where the record of a mode begins; for the number of modes, where the file ends.
-    pub fn place_of(&self, mode: u16) -> usize
+    pub(super) fn place_of(&self, mode: u16) -> usize
         ensures { λ r. ⌜ r ≡ placeOf (now (self .entry)) mode ⌝ }
     {
         12 + mode as usize * self.stride()
@@ -117,7 +117,7 @@ fn lowest_unsound(file: &[u8], header: &Header) -> Option<u16>
 }
 
 // The file's header, or the first cause to refuse the file.
-pub fn check(file: &[u8]) -> Result<Header, Refusal>
+pub(super) fn check(file: &[u8]) -> Result<Header, Refusal>
     ensures { λ r. ⌜ elim r [ Ok h ↦ (fault (now (file .entry)) ≡ None) × (h ≡ headerOf (now (file .entry))) | Err e ↦ fault (now (file .entry)) ≡ Some e ] ⌝ }
 {
     if file.len() < 12 {

@@ -1,11 +1,8 @@
-use Prim.Native.Nat.{ℕ}
-use mathlib.Core.Path.{_≡_, sym, ap, _∙_}
-use mathlib.Core.List.{List}
+use mathlib.Core.Path.{_≡_, ap, _∙_}
 use native.Mathlib.Omega.{arith}
 use lib.ListN.{length}
-use Rattle.std.specs.declared.option.Option.{Option}
 use Rattle.std.specs.declared.option.Option.the-variants.{Some, None}
-use Rattle.basis.specs.Refusals.{numberOf, valueOf}
+use Rattle.basis.specs.Refusals.{numberOf}
 use Rattle.basis.specs.Lines.{written, answered, overlaid, refusalLine}
 use Rattle.basis.proofs.Pieces.{written-answered}
 use Rattle.basis.proofs.Telling.{told, told-plain, told-at, told-short, at-short}

@@ -1,10 +1,5 @@
-use Prim.Native.Nat.{_+_, _*_}
 use mathlib.Core.Path.{_≡_, sym, ap, _∙_}
-use mathlib.Core.Bool.{true, false}
-use native.Mathlib.Omega.{arith}
-use lib.ListN.{length}
 use Rattle.std.specs.Options.{mapped}
-use Rattle.std.specs.declared.option.Option.the-variants.{Some, None}
 use Rattle.basis.specs.declared.refusal.Refusal.the-variants.{Record as BadRecord}
 use Rattle.chart.specs.Files.{fileLength, headerOf, limited, lowest, placeOf, soundIn}
 use Rattle.chart.proofs.Files.{fault-length, fault-signature, fault-header, fault-whole, fault-records}

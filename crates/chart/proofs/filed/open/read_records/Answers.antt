@@ -1,14 +1,14 @@
 use Prim.Native.Nat.{ℕ, _+_, _*_, _≤_, _<_}
-use mathlib.Core.Path.{_≡_, refl, sym, ap, subst, _∙_}
-use mathlib.Core.List.{List, [], _∷_, _++_, map}
+use mathlib.Core.Path.{_≡_, sym, ap, subst, _∙_}
+use mathlib.Core.List.{[], _∷_, _++_, map}
 use native.Mathlib.Omega.{arith}
 use lib.ListN.{length}
 use Rattle.std.specs.Iters.{counting}
-use Rattle.std.specs.Of.Vec.{vec-items, vec-len, vec-cap}
+use Rattle.std.specs.Of.Vec.{vec-items}
 use Rattle.std.proofs.shelf.Counted.{map-counting-more}
 use Rattle.std.proofs.shelf.Lists.{map-append}
 use Rattle.chart.specs.Records.{rowOf}
-use Rattle.chart.specs.Files.{headerOf, placeOf, degreeAt, fileRow, stride, rowAt}
+use Rattle.chart.specs.Files.{headerOf, placeOf, degreeAt, fileRow, rowAt}
 use Rattle.chart.proofs.Files.{record-within}
 use Rattle.chart.proofs.Sound.{faultless, sound-mode, limits-of}
 use Rattle.chart.proofs.filed.open.read_records.Needs as need

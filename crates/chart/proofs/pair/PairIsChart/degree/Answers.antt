@@ -1,6 +1,5 @@
 use Prim.Native.Nat.{_+_}
 use mathlib.Core.Path.{sym, ap, _∙_}
-use native.Mathlib.Omega.{arith}
 use lib.ListN.{length}
 use Rattle.ctl.specs.Chart.{degree}
 use Rattle.chart.proofs.Pairs.{pair-row, pair-past, pair-degree}

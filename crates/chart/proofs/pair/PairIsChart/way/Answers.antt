@@ -1,7 +1,6 @@
 use mathlib.Core.Path.{sym, ap, _∙_}
 use Rattle.std.specs.Finite.{nth}
-use Rattle.ctl.specs.Chart.{size}
-use Rattle.chart.proofs.Pairs.{pair-row, pair-past, sides-below}
+use Rattle.chart.proofs.Pairs.{pair-row, pair-past}
 use Rattle.chart.proofs.pair.PairIsChart.way.Needs as need
 
 pub returns-in-rest : need.returns-in-rest
