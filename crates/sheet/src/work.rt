@@ -1,0 +1,36 @@
+// What a sheet or a book has beside its chart.
+ghost use Prim.Native.Nat.{_≤_};
+ghost use mathlib.Core.Path.{_≡_};
+ghost use Rattle.std.specs.Of.Vec.{vec-cap, vec-len};
+use rounds::Line;
+use rounds::ModeSet;
+
+// How many lines are written, and how many of them, from the first, are settled.
+#[derive(Clone, Copy)]
+pub struct Tally {
+    pub lines: usize,
+    pub settled: usize,
+}
+
+// Room for 64 lines and 32 entries, of which some are in use; what lies past the tally is no part of the sheet.
+#[derive(Drop)]
+pub struct Work {
+    pub(crate) lines: Vec<Line>,
+    pub(crate) tally: Tally,
+    // the line of each entry
+    pub(crate) entries: Vec<usize>,
+    // the set that a round makes
+    pub(crate) next: ModeSet,
+    ghost rooms: { vec-len lines ≡ 64 },
+    ghost few: { tally .lines ≤ 64 },
+    ghost listed: { vec-len entries ≤ 32 },
+    ghost reserved: { 32 ≤ vec-cap entries },
+}
+
+// Rounds made, and plain and looping lines written, since the sheet was last empty.
+#[derive(Clone, Copy, PartialEq, Eq, Debug)]
+pub struct Counts {
+    pub rounds: usize,
+    pub plain: usize,
+    pub looping: usize,
+}
