@@ -1,1 +1,3 @@
 mod Counters
+mod Pairs
+mod Records

@@ -1,1 +1,5 @@
 pub mod Counters
+pub mod Pairs
+pub mod Records
+pub mod Filed
+pub mod Files

@@ -2,7 +2,18 @@
 // counters, charts read from a file, pairs of charts, and lent charts.
 pub mod chart;
 pub mod counter;
+pub mod filed;
+pub mod lent;
+pub mod pair;
+pub mod record;
+mod side;
 
 pub use chart::Chart;
 pub use counter::CounterChart;
 pub use counter::CounterIsChart;
+pub use filed::FiledChart;
+pub use filed::answers::FiledIsChart;
+pub use lent::LentIsChart;
+pub use pair::Pair;
+pub use pair::PairIsChart;
+pub use pair::fits;

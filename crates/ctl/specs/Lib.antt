@@ -7,3 +7,5 @@ pub mod Lines
 pub mod Rounds
 pub mod Paths
 pub mod Laws
+pub mod Meter
+pub mod PathLaws

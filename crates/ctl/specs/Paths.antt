@@ -1,5 +1,5 @@
 -- The path that is shown for an answer, and what bears an answer out.
-use Prim.Native.Nat.{ℕ, zero, suc, _+_, _<_, _≤_}
+use Prim.Native.Nat.{ℕ, zero, suc, _+_, _<_}
 use mathlib.Core.Path.{_≡_}
 use mathlib.Core.Bool.{Bool, true, false, not, cond, _&&_, _||_}
 use mathlib.Core.List.{List, [], _∷_, _++_, map}
@@ -15,7 +15,6 @@ use Rattle.ctl.specs.Runs.{Way}
 use Rattle.ctl.specs.Rounds.{Progress, lineAt}
 use Rattle.ctl.specs.declared.rule.Quantifier.{Quantifier}
 use Rattle.ctl.specs.declared.rule.Quantifier.the-variants.{Exists, Forall}
-use Rattle.ctl.specs.declared.rule.Connective.{Connective}
 use Rattle.ctl.specs.declared.rule.Temporal.{Temporal}
 use Rattle.ctl.specs.declared.rule.Temporal.the-variants.{Until, Release}
 use Rattle.ctl.specs.declared.rule.Rule.{Rule}
