@@ -36,3 +36,11 @@ line-used w i l h e =
     let held = lines-held w in
     let long = length-take-le n (vec-items (w .lines)) held in
     line-found (take n (vec-items (w .lines))) i l rounds.noLine (omega arith) (e ∙ sym (getD-take n (vec-items (w .lines)) i l h))
+
+-- the part that is lent is the lines in use, and comes back as long as it was
+pub lent-front : (n : ℕ) (ls vs : List Line) → ls ≡ vs → take (n - 0) ls ≡ take n vs
+lent-front n ls vs e = let z : n - 0 ≡ n = omega arith in ap (λ (m : ℕ). take m ls) z ∙ ap (take n) e
+
+pub lent-length : (w : Work) (ls xs : List Line) → ls ≡ vec-items (w .lines) → length xs ≡ length (take (w .tally .lines - 0) ls) → length xs ≡ w .tally .lines
+lent-length w ls xs e k =
+    k ∙ ap length (lent-front (w .tally .lines) ls (vec-items (w .lines)) e) ∙ length-take-le (w .tally .lines) (vec-items (w .lines)) (lines-held w)

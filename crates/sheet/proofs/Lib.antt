@@ -1,3 +1,4 @@
 pub mod Fronts
 pub mod Asked
 pub mod Counted
+pub mod Invariant

@@ -1,7 +1,9 @@
 // What a sheet or a book has beside its chart.
 ghost use Prim.Native.Nat.{_≤_};
 ghost use mathlib.Core.Path.{_≡_};
-ghost use Rattle.std.specs.Of.Vec.{vec-cap, vec-len};
+ghost use Rattle.ctl.specs.Lines.{Distinct, Ordered};
+ghost use Rattle.sheet.specs.Used.{rulesIn};
+ghost use Rattle.std.specs.Of.Vec.{vec-cap, vec-items, vec-len};
 use rounds::Line;
 use rounds::ModeSet;
 
@@ -25,6 +27,9 @@ pub struct Work {
     ghost few: { tally .lines ≤ 64 },
     ghost listed: { vec-len entries ≤ 32 },
     ghost reserved: { 32 ≤ vec-cap entries },
+    // operands stand before their lines, and no two lines are equal
+    ghost ordered: { ∥ Ordered (rulesIn (tally .lines) (vec-items lines)) ∥₁ },
+    ghost apart: { ∥ Distinct (rulesIn (tally .lines) (vec-items lines)) ∥₁ },
 }
 
 // Rounds made, and plain and looping lines written, since the sheet was last empty.
