@@ -27,3 +27,6 @@ asked-told μ s i m l v h k e t =
     let told : Verdict → Result Verdict Refusal = λ x. Ok x in
     rw (lt-ltb i (length (s .progress .lines)) h, lt-ltb m (size μ) k)
     (ap told (t ∙ ap (λ (x : Line). toldBy x (ltb i (s .progress .settled)) m) (sym e)))
+
+pub asked-verdict : (μ : Meaning) (s : State) (i m : ℕ) → i < length (s .progress .lines) → m < size μ → Ok (verdict (s .progress) i m) ≡ asked μ s i m
+asked-verdict μ s i m h k = rw (lt-ltb i (length (s .progress .lines)) h, lt-ltb m (size μ) k)

@@ -2,3 +2,4 @@ pub mod Fronts
 pub mod Asked
 pub mod Counted
 pub mod Invariant
+pub mod Sound

@@ -1,2 +1,3 @@
 pub mod Used
 pub mod State
+pub mod Promises

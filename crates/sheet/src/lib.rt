@@ -1,9 +1,12 @@
 // The sheet and the book: texts are entered on a sheet, rounds are made, lines are asked about; a finished sheet is a
 // book, whose report can be written.
-pub mod asking;
-pub mod counting;
-pub mod making;
+mod asking;
+mod counting;
+mod making;
+mod sheet_calls;
+pub mod states;
 pub mod work;
 
+pub use states::Book;
+pub use states::Sheet;
 pub use work::Counts;
-pub use work::Work;
