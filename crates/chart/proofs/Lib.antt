@@ -1,3 +1,5 @@
 mod Counters
 mod Pairs
 mod Records
+mod Files
+mod Sound

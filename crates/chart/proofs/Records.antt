@@ -12,7 +12,7 @@ use Rattle.std.specs.declared.option.Option.{Option}
 use Rattle.std.specs.declared.option.Option.the-variants.{Some, None}
 use Rattle.std.proofs.iter.runs.Lists.{nth-read, nth-within, same-some, none-some}
 use Rattle.std.proofs.shelf.Bits.{and-mask}
-use Rattle.std.proofs.shelf.Counted.{length-map-counting, getD-map-counting}
+use Rattle.std.proofs.shelf.Counted.{length-map-counting, getD-map-counting, fill-by-all}
 use Rattle.std.proofs.shelf.Lists.{getD-map, getD-past, length-map}
 use Rattle.std.proofs.shelf.Maps.{nth-past}
 use Rattle.ctl.specs.Chart.{Row, Meaning, blank, size, row, degree, wayAt, stands}
@@ -58,3 +58,8 @@ mark-of a r k h = masked-bit (r .marks) k ∙ sym (getD-map-counting (bit (r .ma
 
 pub mark-past : (a : ℕ) (r : ModeRecord) (k : ℕ) → a ≤ k → false ≡ getD (rowOf a r .standing) k false
 mark-past a r k h = sym (getD-past (rowOf a r .standing) k false (omega (arith, length-map-counting (bit (r .marks)) 0 a)))
+
+-- lists made from functions that agree below d
+pub map-same : {X : Type 0} (z : X) (f g : ℕ → X) (d : ℕ) → ((p : ℕ) → p < d → f p ≡ g p) → map f (counting 0 d) ≡ map g (counting 0 d)
+map-same z f g d e =
+    fill-by-all g (map f (counting 0 d)) d z (length-map-counting f 0 d) (λ k h. getD-map-counting f 0 d k k z h (omega arith) ∙ e k h)

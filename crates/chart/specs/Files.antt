@@ -95,20 +95,21 @@ soundAt f h at =
     eqb (marksAt f at / 2 ^ (h .marks)) 0
     && (leb 1 (degreeAt f at) && (leb (degreeAt f at) (h .width) && (eqb (byte f (at + 3)) 0 && placesSound f h at (degreeAt f at))))
 
-abbrev pub soundMode : List ℕ → ℕ → Bool
-soundMode f m = soundAt f (headerOf f) (placeOf (headerOf f) m)
+-- the record of a mode does
+abbrev pub soundIn : List ℕ → Header → ℕ → Bool
+soundIn f h m = soundAt f h (placeOf h m)
 
 -- the first cause to refuse a file
 abbrev pub unlessSo : Bool → Refusal → Option Refusal → Option Refusal
 unlessSo true e rest = rest
 unlessSo false e rest = Some e
 
-abbrev pub fault : List ℕ → Option Refusal
+unfoldable pub fault : List ℕ → Option Refusal
 fault f =
     unlessSo (leb 12 (length f)) ShortFile
     (unlessSo (signed f) Signature
     (unlessSo (limited (headerOf f)) BadHeader
-    (unlessSo (eqb (length f) (fileLength (headerOf f))) FileLength (mapped BadRecord (lowest (soundMode f) 0 (headerOf f .modes))))))
+    (unlessSo (eqb (length f) (fileLength (headerOf f))) FileLength (mapped BadRecord (lowest (soundIn f (headerOf f)) 0 (headerOf f .modes))))))
 
 -- an answer where there is no cause to refuse
 abbrev pub answer : {X : Type 0} → Option Refusal → X → Result X Refusal

@@ -10,6 +10,7 @@ ghost use mathlib.Core.Path.{_≡_};
 use super::chart::Chart;
 use basis::Refusal;
 
+#[derive(Clone, Copy)]
 pub struct CounterChart {
     length: u16,
     ghost bounds: { (1 ≤ length) × (length ≤ 256) },

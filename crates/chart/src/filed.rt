@@ -6,7 +6,8 @@ ghost use Rattle.std.specs.Of.Vec.{vec-cap, vec-items};
 use super::record::ModeRecord;
 
 pub mod answers;
-pub mod open;
+mod check;
+mod open;
 
 #[derive(Drop)]
 pub struct FiledChart {

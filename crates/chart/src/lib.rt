@@ -5,7 +5,7 @@ pub mod counter;
 pub mod filed;
 pub mod lent;
 pub mod pair;
-pub mod record;
+mod record;
 mod side;
 
 pub use chart::Chart;

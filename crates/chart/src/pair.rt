@@ -11,6 +11,7 @@ use super::chart::Chart;
 use super::side::Side;
 use basis::Refusal;
 
+#[derive(Drop)]
 pub struct Pair<L, R> {
     left: L,
     right: R,

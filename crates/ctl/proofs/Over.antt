@@ -1,12 +1,12 @@
 -- Some element and every element of a list by place, and what a sign does to tests.
 use Prim.Native.Nat.{ℕ, zero, suc, _<_}
 use native.Mathlib.Omega.{arith}
-use mathlib.Core.Path.{_≡_, refl, sym, ap, ap₂, subst, _∙_}
-use mathlib.Core.Logic.{inl, inr, ⊎-elim}
+use mathlib.Core.Path.{_≡_, refl, ap, _∙_}
+use mathlib.Core.Logic.{⊎-elim}
 use mathlib.Core.Bool.{Bool, true, false, not, _&&_, _||_}
 use mathlib.Core.List.{List, [], _∷_}
 use lib.ListN.{length, getD}
-use Rattle.std.proofs.shelf.Tests.{both-ways, and-parts, and-from, and-cases, or-cases, or-left, or-right, cases-bool}
+use Rattle.std.proofs.shelf.Tests.{both-ways, and-parts, and-from, and-cases, or-cases, or-left, or-right}
 use Rattle.ctl.specs.Tests.{any, all, agrees}
 use Rattle.ctl.specs.Rules.{over}
 use Rattle.ctl.specs.Property.{quantifierAt}
@@ -48,13 +48,6 @@ not-all-place f (x ∷ xs) e =
 pub over-more : (o : Quantifier) (f g : ℕ → Bool) (xs : List ℕ) → ((x : ℕ) → f x ≡ true → g x ≡ true) → over o f xs ≡ true → over o g xs ≡ true
 over-more Exists f g xs h e = let w = any-place f xs e in any-at g xs (w .0) (w .1) (h (getD xs (w .0) 0) (w .2))
 over-more Forall f g xs h e = all-places g xs (λ i l. h (getD xs i 0) (all-at f xs i l e))
-
--- two tests that agree on a list's elements
-pub over-same : (o : Quantifier) (f g : ℕ → Bool) (xs : List ℕ) → ((i : ℕ) → i < length xs → f (getD xs i 0) ≡ g (getD xs i 0)) → over o f xs ≡ over o g xs
-over-same Exists f g [] h = refl
-over-same Exists f g (x ∷ xs) h = ap₂ (λ (a b : Bool). a || b) (h 0 (omega arith)) (over-same Exists f g xs (λ i l. h (suc i) (omega arith)))
-over-same Forall f g [] h = refl
-over-same Forall f g (x ∷ xs) h = ap₂ (λ (a b : Bool). a && b) (h 0 (omega arith)) (over-same Forall f g xs (λ i l. h (suc i) (omega arith)))
 
 not-and : (a b : Bool) → not (a && b) ≡ (not a || not b)
 not-and true b = refl
