@@ -26,10 +26,10 @@ none-apart = ∣ (λ i j h k. absurd (omega arith)) ∣₁
 
 -- rounds keep the rules of the lines in use
 pub rules-advanced : {Z : Type 0} (μ : Meaning) (k : ℕ) (v : Vec Line Z) (n s s′ : ℕ) (xs post : List Line)
-  → n ≤ vec-len v
-  → length xs ≡ n
-  → progressOf xs s′ ≡ turns μ k (progressOf (take n (vec-items v)) s)
-  → rulesIn n (vec-items v) ≡ rulesIn n (vec-items (refilled v (xs ++ post)))
+    → n ≤ vec-len v
+    → length xs ≡ n
+    → progressOf xs s′ ≡ turns μ k (progressOf (take n (vec-items v)) s)
+    → rulesIn n (vec-items v) ≡ rulesIn n (vec-items (refilled v (xs ++ post)))
 rules-advanced μ k v n s s′ xs post h e a =
     sym
     (ap (λ (ls : List Line). rulesOf (progressOf ls 0)) (front-refilled v n xs post h e)

@@ -8,12 +8,12 @@ ghost use Rattle.sheet.specs.Promises.{AllTold, Told};
 ghost use Rattle.sheet.specs.State.{advanced, asked, countedUp, emptied, finished, stateOf};
 ghost use Rattle.std.specs.Results.{Cases};
 ghost use mathlib.Core.Path.{_≡_};
-use basis::Refusal;
-use chart::Chart;
 use crate::states::Book;
 use crate::states::Sheet;
 use crate::work::Counts;
 use crate::work::Work;
+use basis::Refusal;
+use chart::Chart;
 use ctl::Verdict;
 use std::alloc::Global;
 

@@ -6,8 +6,9 @@ use Rattle.sheet.proofs.states.Sheet.advance.Needs as need
 pub returns : need.returns
 returns g c =
     let w = c .args .self .now in
-    record
-      { answer = c .advance .ensures .answer
-      ; after = c .advance .ensures .after
-      ; chart = refl
-      ; sound = advanced-sound (g .C·Chart .meaning (w .chart)) (c .args .budget) (stateOf (w .work)) (stateOf (c .advance .last .self)) (c .advance .ensures .after) }
+    record {
+      answer = c .advance .ensures .answer;
+      after = c .advance .ensures .after;
+      chart = refl;
+      sound = advanced-sound (g .C·Chart .meaning (w .chart)) (c .args .budget) (stateOf (w .work)) (stateOf (c .advance .last .self)) (c .advance .ensures .after);
+    }

@@ -6,7 +6,8 @@ use Rattle.sheet.proofs.states.Sheet.clear.Needs as need
 pub returns : need.returns
 returns g c =
     let w = c .args .self .now in
-    record
-      { after = c .clear .ensures
-      ; chart = refl
-      ; sound = empty-sound (g .C·Chart .meaning (w .chart)) (stateOf (c .clear .last .self)) (g .C·Chart .lawful (w .chart)) (c .clear .ensures) }
+    record {
+      after = c .clear .ensures;
+      chart = refl;
+      sound = empty-sound (g .C·Chart .meaning (w .chart)) (stateOf (c .clear .last .self)) (g .C·Chart .lawful (w .chart)) (c .clear .ensures);
+    }

@@ -21,14 +21,23 @@ ghost-self g c =
     let lent = lent-front (w .tally .lines) (c .deref-mut .result .now) (vec-items (w .lines)) (c .deref-mut .ensures .value) in
     let within : w .tally .lines ≤ vec-len (w .lines) = omega (arith, w .few, w .rooms) in
     let rules = rules-advanced μ (c .args .budget) (w .lines) (w .tally .lines) (w .tally .settled) (c .advance .last .settled) (c .advance .last .lines) _ within
-        (lent-length w (c .deref-mut .result .now) (c .advance .last .lines) (c .deref-mut .ensures .value) (c .advance .kept .lines))
-        (c .advance .ensures .after ∙ ap (λ (ls : List Line). turns μ (c .args .budget) (progressOf ls (w .tally .settled))) lent) in
-    ( w .rooms
-    , ( w .few
-      , ( w .listed
-        , ( w .reserved
-          , ( subst (λ (rs : List Rule). ∥ Ordered rs ∥₁) rules (w .ordered)
-            , (subst (λ (rs : List Rule). ∥ Distinct rs ∥₁) rules (w .apart), tt) ) ) ) ) )
+    (lent-length w (c .deref-mut .result .now) (c .advance .last .lines) (c .deref-mut .ensures .value) (c .advance .kept .lines))
+    (c .advance .ensures .after ∙ ap (λ (ls : List Line). turns μ (c .args .budget) (progressOf ls (w .tally .settled))) lent) in (
+      w .rooms,
+      (
+        w .few,
+        (
+          w .listed,
+          (
+            w .reserved,
+            (
+              subst (λ (rs : List Rule). ∥ Ordered rs ∥₁) rules (w .ordered),
+              (subst (λ (rs : List Rule). ∥ Distinct rs ∥₁) rules (w .apart), tt),
+            ),
+          ),
+        ),
+      ),
+    )
 
 pub returns : need.returns
 returns g c =
@@ -37,10 +46,11 @@ returns g c =
     let lent = lent-front (w .tally .lines) (c .deref-mut .result .now) (vec-items (w .lines)) (c .deref-mut .ensures .value) in
     let within : w .tally .lines ≤ vec-len (w .lines) = omega (arith, w .few, w .rooms) in
     let long = lent-length w (c .deref-mut .result .now) (c .advance .last .lines) (c .deref-mut .ensures .value) (c .advance .kept .lines) in
-    record
-      { answer = c .advance .ensures .made ∙ ap (λ (ls : List Line). made μ (c .args .budget) (progressOf ls (w .tally .settled))) lent
-      ; after =
+    record {
+      answer = c .advance .ensures .made ∙ ap (λ (ls : List Line). made μ (c .args .budget) (progressOf ls (w .tally .settled))) lent;
+      after =
           ap (withEntries (vec-items (w .entries)))
           (ap (λ (ls : List Line). progressOf ls (c .advance .last .settled)) (front-refilled (w .lines) (w .tally .lines) (c .advance .last .lines) _ within long)
           ∙ c .advance .ensures .after
-          ∙ ap (λ (ls : List Line). turns μ (c .args .budget) (progressOf ls (w .tally .settled))) lent) }
+          ∙ ap (λ (ls : List Line). turns μ (c .args .budget) (progressOf ls (w .tally .settled))) lent);
+    }
