@@ -1,5 +1,7 @@
-mod Laying
-mod Figures
-mod Pieces
+pub mod Laying
+pub mod Figures
+pub mod Pieces
 mod Telling
+mod Laying
+pub mod Telling
 pub mod Stacked
