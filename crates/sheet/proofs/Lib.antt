@@ -3,3 +3,4 @@ pub mod Asked
 pub mod Counted
 pub mod Invariant
 pub mod Sound
+pub mod Entered

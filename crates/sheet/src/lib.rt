@@ -3,6 +3,7 @@
 mod asking;
 mod book_calls;
 mod counting;
+mod entering;
 mod making;
 mod sheet_calls;
 pub mod states;

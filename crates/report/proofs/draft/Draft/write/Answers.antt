@@ -7,7 +7,7 @@ use Rattle.std.specs.Joined.{joined}
 use Rattle.std.specs.Of.Vec.{vec-items, vec-len}
 use Rattle.std.proofs.shelf.Lists.{take-at}
 use Rattle.basis.specs.Lines.{spelling, lineOf, written, overlaid}
-use Rattle.basis.proofs.Telling.{written-answered}
+use Rattle.basis.proofs.Pieces.{written-answered}
 use Rattle.report.specs.Reports.{totalText, totalLine}
 use Rattle.report.proofs.Short.{total-short}
 use Rattle.report.proofs.Spelled.{line-spelled}
