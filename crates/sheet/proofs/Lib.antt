@@ -4,3 +4,5 @@ pub mod Counted
 pub mod Invariant
 pub mod Sound
 pub mod Entered
+pub mod Shown
+pub mod Evidence

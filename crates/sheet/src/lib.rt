@@ -6,6 +6,7 @@ mod counting;
 mod entering;
 mod making;
 mod sheet_calls;
+mod showing;
 pub mod states;
 pub mod work;
 

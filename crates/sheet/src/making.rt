@@ -45,6 +45,7 @@ impl Work {
         let next = ModeSet::new(heap)?;
         let parts = Parts::new(heap)?;
         let writing = Scratch::new(heap)?;
+        let showing = witness::Scratch::new(heap)?;
         let tally = Tally {
             lines: 0,
             settled: 0,
@@ -56,6 +57,7 @@ impl Work {
             next,
             parts,
             writing,
+            showing,
         })
     }
 }

@@ -22,6 +22,8 @@ pub struct Work {
     // the parts of the text that is being entered, and what writing its lines needs
     pub(crate) parts: Parts,
     pub(crate) writing: Scratch,
+    // what showing a path needs
+    pub(crate) showing: witness::Scratch,
     ghost rooms: { vec-len lines ≡ 64 },
     ghost few: { tally .lines ≤ 64 },
     ghost listed: { vec-len entries ≤ 32 },
