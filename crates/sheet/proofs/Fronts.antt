@@ -27,3 +27,7 @@ line-used w i l h e =
     let held = lines-held w in
     let long = length-take-le n (vec-items (w .lines)) held in
     line-found (take n (vec-items (w .lines))) i l rounds.noLine (omega arith) (e ∙ sym (getD-take n (vec-items (w .lines)) i l h))
+
+-- what is lent of the lines is those in use
+pub lent-used : (w : Work) (ls : List Line) → ls ≡ vec-items (w .lines) → take (w .tally .lines - 0) ls ≡ take (w .tally .lines) (vec-items (w .lines))
+lent-used w ls e = let z : w .tally .lines - 0 ≡ w .tally .lines = omega arith in ap (λ (k : ℕ). take k ls) z ∙ ap (take (w .tally .lines)) e

@@ -6,3 +6,4 @@ pub mod Sound
 pub mod Entered
 pub mod Shown
 pub mod Evidence
+pub mod Reported

@@ -4,8 +4,9 @@ ghost use Rattle.ctl.specs.Chart.{size};
 ghost use Rattle.ctl.specs.Laws.{Sound, lineProperty};
 ghost use Rattle.ctl.specs.Runs.{Holds};
 ghost use Rattle.sheet.specs.Promises.{Shows, Told};
+ghost use Rattle.sheet.specs.Reported.{bytesOf};
 ghost use Rattle.sheet.specs.State.{asked, countedUp, modesOf, showing, stateOf, told};
-ghost use Rattle.basis.specs.Lines.{overlaid};
+ghost use Rattle.basis.specs.Lines.{answered, overlaid};
 ghost use lib.ListN.{length};
 ghost use mathlib.Core.Path.{_≡_};
 use crate::states::Book;
@@ -43,6 +44,16 @@ impl<C: Chart> Book<C> {
         ensures borne { λ r. ⌜ (Sound (C·Chart .meaning (now (self .entry) .chart)) (stateOf (now (self .entry) .work) .progress) → Shows (C·Chart .meaning (now (self .entry) .chart)) (stateOf (now (self .entry) .work) .progress) line mode r (now (path .exit))) ⌝ }
     {
         self.work.show(&self.chart, line, mode, path)
+    }
+
+    // The report, laid into a buffer whole or not at all; answers how many bytes it has.
+    pub fn report(&mut self, out: &mut [u8]) -> Result<usize, Refusal>
+        ensures answer { λ r. ⌜ r ≡ answered (bytesOf (C·Chart .meaning (now (self .entry) .chart)) (stateOf (now (self .entry) .work))) (length (now (out .entry))) ⌝ }
+        ensures buffer { λ _. ⌜ now (out .exit) ≡ overlaid (bytesOf (C·Chart .meaning (now (self .entry) .chart)) (stateOf (now (self .entry) .work))) (now (out .entry)) ⌝ }
+        ensures after { λ _. ⌜ stateOf (now (self .exit) .work) ≡ stateOf (now (self .entry) .work) ⌝ }
+        ensures chart { λ _. ⌜ now (self .exit) .chart ≡ now (self .entry) .chart ⌝ }
+    {
+        self.work.report(&self.chart, out)
     }
 
     // The sheet again, with all that it had.

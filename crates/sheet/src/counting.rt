@@ -51,18 +51,11 @@ fn looping_of(lines: &[Line]) -> usize
 }
 
 impl Work {
-    // The lines in use.
-    pub(crate) fn used(&self) -> &[Line]
-        ensures { λ r. ⌜ now r ≡ take (now (self .entry) .tally .lines) (vec-items (now (self .entry) .lines)) ⌝ }
-    {
-        &self.lines[0..self.tally.lines]
-    }
-
     // Rounds made since the sheet was last empty, and its plain and looping lines.
     pub fn count(&self) -> Counts
         ensures { λ r. ⌜ r ≡ countedUp (stateOf (now (self .entry))) ⌝ }
     {
-        let lines = self.used();
+        let lines = &self.lines[0..self.tally.lines];
         let looping = looping_of(lines);
         Counts {
             rounds: rounds_of(lines),

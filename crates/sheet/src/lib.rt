@@ -5,6 +5,7 @@ mod book_calls;
 mod counting;
 mod entering;
 mod making;
+mod reporting;
 mod sheet_calls;
 mod showing;
 pub mod states;

@@ -10,6 +10,7 @@ use basis::Refusal;
 use entry::Scratch;
 use entry::Tally;
 use property::postfix::Parts;
+use report::Draft;
 use rounds::Line;
 use rounds::ModeSet;
 use std::alloc::Global;
@@ -46,6 +47,7 @@ impl Work {
         let parts = Parts::new(heap)?;
         let writing = Scratch::new(heap)?;
         let showing = witness::Scratch::new(heap)?;
+        let draft = Draft::new(heap)?;
         let tally = Tally {
             lines: 0,
             settled: 0,
@@ -58,6 +60,7 @@ impl Work {
             parts,
             writing,
             showing,
+            draft,
         })
     }
 }

@@ -7,6 +7,7 @@ ghost use Rattle.std.specs.Of.Vec.{vec-cap, vec-items, vec-len};
 use entry::Scratch;
 use entry::Tally;
 use property::postfix::Parts;
+use report::Draft;
 use rounds::Line;
 use rounds::ModeSet;
 
@@ -24,6 +25,8 @@ pub struct Work {
     pub(crate) writing: Scratch,
     // what showing a path needs
     pub(crate) showing: witness::Scratch,
+    // the report's rows
+    pub(crate) draft: Draft,
     ghost rooms: { vec-len lines ≡ 64 },
     ghost few: { tally .lines ≤ 64 },
     ghost listed: { vec-len entries ≤ 32 },

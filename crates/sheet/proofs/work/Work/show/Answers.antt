@@ -15,7 +15,7 @@ use Rattle.rounds.specs.Held.{heldLines, progressOf}
 use Rattle.rounds.specs.declared.line.Line.{Line}
 use Rattle.witness.specs.Showing as witness
 use Rattle.sheet.specs.State.{showing, stateOf, told, modesOf}
-use Rattle.sheet.proofs.Fronts.{lines-used}
+use Rattle.sheet.proofs.Fronts.{lines-used, lent-used}
 use Rattle.sheet.proofs.Shown.{show-no-line, show-no-mode, show-not-settled, show-settled, refused-answer, refused-buffer, same-shown, borne-answer, borne-buffer}
 use Rattle.sheet.proofs.work.Work.show.Needs as need
 
@@ -51,9 +51,7 @@ returns g c =
     let i = c .args .line in
     let m = c .args .mode in
     let buffer = c .args .path .now in
-    let z : w .tally .lines - 0 ≡ w .tally .lines = omega arith in
-    let lent : take (w .tally .lines - 0) (c .deref .result .now) ≡ take (w .tally .lines) (vec-items (w .lines)) =
-    ap (λ (k : ℕ). take k (c .deref .result .now)) z ∙ ap (take (w .tally .lines)) (c .deref .ensures .value) in
+    let lent = lent-used w (c .deref .result .now) (c .deref .ensures .value) in
     let e = show-settled μ (stateOf w) i m (length buffer) (rw (lines-used w) (c .if-line-self .left)) (omega arith) (c .if-line-self-2 .left) in
     record {
       answer =
