@@ -1,0 +1,4 @@
+pub mod Used
+pub mod State
+pub mod Promises
+pub mod Reported
