@@ -1,0 +1,4 @@
+pub mod Led
+pub mod Splits
+pub mod Answers
+pub mod Whole

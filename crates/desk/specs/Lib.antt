@@ -1,0 +1,4 @@
+pub mod Calls
+pub mod Steps
+pub mod Past
+pub mod Promise
