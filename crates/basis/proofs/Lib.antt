@@ -1,5 +1,5 @@
-mod Laying
-mod Figures
-mod Pieces
-mod Telling
+pub mod Laying
+pub mod Figures
+pub mod Pieces
+pub mod Telling
 pub mod Stacked

@@ -1,18 +1,21 @@
 -- The pieces of a line, taken from the front.
-use Prim.Native.Nat.{ℕ, _+_, _^_, _≤_, _<_}
+use Prim.Native.Nat.{ℕ, _+_, _-_, _^_, _≤_, _<_, min}
 use mathlib.Core.Path.{_≡_, refl, ap, _∙_}
 use mathlib.Core.List.{List, [], _∷_, _++_, append-assoc}
+use mathlib.Core.Bool.{cond}
 use mathlib.Core.Logic.{⊎-elim}
 use native.Mathlib.Omega.{arith}
-use lib.Dec.{ltb}
+use lib.Dec.{leb, ltb}
 use lib.ListN.{length, drop, getD, length-append}
 use Rattle.std.specs.Joined.{joined}
 use Rattle.std.proofs.shelf.Lists.{drop-more, drop-all}
 use Rattle.std.proofs.shelf.Tests.{cond-true, cond-false, lt-ltb, le-ltb, cases-lt}
 use Rattle.std.specs.declared.option.Option.the-variants.{Some, None}
+use Rattle.std.specs.declared.result.Result.the-variants.{Ok, Err}
+use Rattle.basis.specs.declared.refusal.Refusal.the-variants.{ShortBuffer}
 use Rattle.basis.specs.declared.line.Piece.{Piece}
 use Rattle.basis.specs.declared.line.Piece.the-variants.{Text}
-use Rattle.basis.specs.Lines.{spelling, lineOf, representable}
+use Rattle.basis.specs.Lines.{spelling, lineOf, representable, written, answered}
 
 -- what a read past the end of the pieces stands for
 abbrev pub none : Piece
@@ -49,3 +52,8 @@ representable-some n m e =
     (λ h. let k = representable-below m h in cc)
     (λ h. let k = representable-above m h in let z : _≡_ {A = ℕ} 0 1 = cc in omega arith)
     (cases-lt m (2 ^ 64))
+
+-- a line whose length a `usize` holds
+pub written-answered : (line : List ℕ) (room : ℕ) → length line < 2 ^ 64 → written line room ≡ answered line room
+written-answered line room h =
+    ap (λ k. cond (leb (length line) room) (Ok (length line)) (Err (ShortBuffer k))) (omega arith)

@@ -1,19 +1,15 @@
 -- The refusal's line as pieces.
-use Prim.Native.Nat.{ℕ, _+_, _-_, _^_, _<_, _≤_, min}
+use Prim.Native.Nat.{ℕ, _+_, _-_, _^_, _<_, _≤_}
 use mathlib.Core.Path.{_≡_, refl, sym, ap, _∙_}
-use mathlib.Core.Bool.{cond}
 use mathlib.Core.List.{List, [], _∷_, _++_, append-assoc}
 use native.Mathlib.Omega.{arith}
-use lib.Dec.{leb}
 use lib.ListN.{length, length-append}
 use lib.Chars.{codes}
 use Rattle.std.specs.Written.{decimal}
 use Rattle.std.specs.declared.option.Option.{Option}
 use Rattle.std.specs.declared.option.Option.the-variants.{Some, None}
-use Rattle.std.specs.declared.result.Result.the-variants.{Ok, Err}
 use Rattle.std.proofs.shelf.Lists.{append-nil}
-use Rattle.basis.specs.declared.refusal.Refusal.the-variants.{ShortBuffer}
-use Rattle.basis.specs.Lines.{written, answered, atValue}
+use Rattle.basis.specs.Lines.{atValue}
 use Rattle.basis.proofs.Figures.{count-bound}
 
 -- a refusal's line, from its number and its value
@@ -27,10 +23,6 @@ pub told-at : (n v : ℕ) → (codes "refused " ++ (decimal n ++ (codes " at " +
 told-at n v =
     ap (λ t. (codes "refused " ++ (decimal n ++ (codes " at " ++ t))) ++ (10 ∷ [])) (append-nil (decimal v))
     ∙ ap (λ t. codes "refused " ++ t) (append-assoc (decimal n) (codes " at " ++ decimal v) (10 ∷ []))
-
-pub written-answered : (line : List ℕ) (room : ℕ) → length line < 2 ^ 64 → written line room ≡ answered line room
-written-answered line room h =
-    ap (λ k. cond (leb (length line) room) (Ok (length line)) (Err (ShortBuffer k))) (omega arith)
 
 pub told-short : (n : ℕ) (v : Option ℕ) → n < 2 ^ 64 → length (atValue v) ≤ 24 → length (told n v) < 2 ^ 64
 told-short n v h k =

@@ -2,6 +2,7 @@
 // `specs/Lines.antt` says which bytes a line has and what the buffer holds after it.
 ghost use Prim.Native.Nat.{ℕ, _+_, _<_, _≤_};
 ghost use Rattle.basis.specs.Lines.{laid, lineOf, overlaid, representable, spelling, written};
+ghost use Rattle.std.specs.Vec.{made};
 ghost use Rattle.std.specs.Written.{decimal};
 ghost use lib.ListN.{length};
 ghost use mathlib.Core.Path.{_≡_};
@@ -29,6 +30,7 @@ pub fn line_length(pieces: &[Piece<'_>]) -> Option<usize>
 pub fn put_line(out: &mut [u8], pieces: &[Piece<'_>]) -> Result<usize, Refusal>
     ensures answer { λ r. ⌜ r ≡ written (lineOf (now (pieces .entry))) (length (now (out .entry))) ⌝ }
     ensures buffer { λ _. ⌜ now (out .exit) ≡ overlaid (lineOf (now (pieces .entry))) (now (out .entry)) ⌝ }
+    ensures bound { λ r. ⌜ made r (λ n. n ≤ length (now (out .entry))) ⌝ }
 {
     let Some(needed) = line_length(pieces) else {
         return Err(Refusal::ShortBuffer(usize::MAX));

@@ -2,6 +2,8 @@
 // `specs/Refusals.antt` maps each case to its number and to the value returned with it.
 ghost use Rattle.basis.specs.Lines.{answered, overlaid, refusalLine};
 ghost use Rattle.basis.specs.Refusals.{numberOf, valueOf};
+ghost use Prim.Native.Nat.{_≤_};
+ghost use Rattle.std.specs.Vec.{made};
 ghost use lib.ListN.{length};
 ghost use mathlib.Core.Path.{_≡_};
 use super::line::Piece;
@@ -101,6 +103,7 @@ impl Refusal {
     pub fn write_line(&self, out: &mut [u8]) -> Result<usize, Refusal>
         ensures answer { λ r. ⌜ r ≡ answered (refusalLine (now (self .entry))) (length (now (out .entry))) ⌝ }
         ensures buffer { λ _. ⌜ now (out .exit) ≡ overlaid (refusalLine (now (self .entry))) (now (out .entry)) ⌝ }
+        ensures bound { λ r. ⌜ made r (λ n. n ≤ length (now (out .entry))) ⌝ }
     {
         let number = Piece::Number(self.number());
         match self.value() {

@@ -87,11 +87,11 @@ impl<L: Chart, R: Chart> Pair<L, R> {
         ensures { λ r. ⌜ r ≡ nth (pairRow (L·Chart .meaning (now (self .entry) .left)) (R·Chart .meaning (now (self .entry) .right)) left right .ways) place ⌝ }
     {
         match self.mover(left, place) {
-            Side::Left(place) => match self.left.way(left, place) {
+            Side::Left(own) => match self.left.way(left, own) {
                 Some(way) => Some(self.mode_of(way, right)),
                 None => None,
             },
-            Side::Right(place) => match self.right.way(right, place) {
+            Side::Right(own) => match self.right.way(right, own) {
                 Some(way) => Some(self.mode_of(left, way)),
                 None => None,
             },

@@ -39,7 +39,7 @@ spelled-push : (ws : List Word) (w : Word) → spelled (ws ++ (w ∷ [])) ≡ sp
 spelled-push [] w = append-nil (spelling w)
 spelled-push (v ∷ ws) w = ap (λ x. spelling v ++ x) (spelled-push ws w) ∙ sym (append-assoc (spelling v) (spelled ws) (spelling w))
 
-spelled-append : (a b : List Word) → spelled (a ++ b) ≡ spelled a ++ spelled b
+pub spelled-append : (a b : List Word) → spelled (a ++ b) ≡ spelled a ++ spelled b
 spelled-append [] b = refl
 spelled-append (w ∷ a) b = ap (λ x. spelling w ++ x) (spelled-append a b) ∙ sym (append-assoc (spelling w) (spelled a) (spelled b))
 

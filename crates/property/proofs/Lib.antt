@@ -6,3 +6,5 @@ pub mod Whole
 pub mod Passing
 pub mod Sought
 pub mod Turned
+pub mod Simulated
+pub mod Driven

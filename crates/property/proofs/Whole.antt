@@ -8,7 +8,9 @@ use native.Mathlib.Omega.{arith}
 use lib.Dec.{leb}
 use lib.ListN.{length, getD}
 use Rattle.std.proofs.shelf.Tests.{both-ways, cases-bool, and-parts, and-from, cond-true, cond-false, leb-true, le-leb}
+use Rattle.std.proofs.shelf.Lists.{append-nil, length-append}
 use Rattle.std.specs.Options.{isSome, valueOr}
+use Rattle.std.specs.Results.{isErr}
 use Rattle.std.specs.declared.option.Option.{Option}
 use Rattle.std.specs.declared.option.Option.the-variants.{Some, None}
 use Rattle.std.specs.declared.result.Result.{Result}
@@ -18,13 +20,16 @@ use Rattle.basis.specs.declared.refusal.Refusal.the-variants.{NameList, TextLen
 use Rattle.property.specs.declared.shape.Part.{Part}
 use Rattle.property.specs.declared.shape.Part.the-variants.{Constant, Name, Unary, Binary}
 use Rattle.property.specs.Syntax.{Syntax, named, truth, unary, binary, renamed, parts, built}
-use Rattle.property.specs.Words.{spelled, scan}
-use Rattle.property.specs.Lists.{listed, placeOf, proper, goodList, Listing}
-use Rattle.property.specs.Writing.{middleOf, closingOf, written, allKnown}
+use Rattle.property.specs.Words.{Word, before, opening, middle, closing, spelling, spelled, scan}
+use Rattle.property.specs.Lists.{listed, placeOf, allLetters, proper, goodList, Listing}
+use Rattle.property.specs.Writing.{openingOf, middleOf, closingOf, written, allKnown}
 use Rattle.property.specs.Machine.{want}
-use Rattle.property.specs.Reading.{readOn, markOf, marked, fitsLength, reading}
-use Rattle.property.specs.Laws.{MarksBelow, Answers, Reads}
-use Rattle.property.proofs.Answered.{Right, right-answer, only-right, found-at, some-place, known-append, append-known}
+use Rattle.property.specs.Reading.{readOn, markOf, marked, fitsLength, reading, outcome, partsOf}
+use Rattle.property.specs.Laws.{Whole, MarksBelow, Answers, Reads}
+use Rattle.property.specs.Flat.{fitAll, withParts, asParts}
+use Rattle.property.proofs.Scanned.{front, form-whole}
+use Rattle.property.proofs.Simulated.{flatten, fit-reads}
+use Rattle.property.proofs.Answered.{AllProper, spelled-append, Right, right-answer, only-right, found-at, some-place, known-append, append-known}
 use Rattle.property.proofs.Listed.{good-listing, listing-is, listing-good, place-own}
 
 -- parts in postfix order give their tree back
@@ -166,3 +171,90 @@ module _ (list : List ℕ) (marks : ℕ) (t : List ℕ) where
       (both-good (listing-good marks list ns l) (fits-from t a b)
       ∙ (ap (λ x. marked x (readOn x (want []) (scan 0 0 t))) (sym (listing-is marks list ns l))
       ∙ marked-only ns t (λ k m. place-own 0 ns (l .1 .1 .1) k m ∙ ap Some (let e : 0 + k ≡ k = omega arith in e)) (l .1 .1 .0) r h))
+
+  -- the code's answer is this one
+  pub refused-list : (r : Result (Unit {0}) Refusal) (e : Refusal) → r ≡ cond (goodList marks list) (Ok tt) (Err NameList) → r ≡ Err e → Err e ≡ asParts (reading list marks t)
+  refused-list r e h f =
+      elim (cases-bool (goodList marks list)) [
+        | inl g ↦
+            absurd
+            (let d = cond-true {A = Result (Unit {0}) Refusal} (goodList marks list) (Ok tt) (Err NameList) g in
+            let z : _≡_ {A = ℕ} 0 1 = cc in omega arith)
+        | inr g ↦
+            let d = cond-false {A = Result (Unit {0}) Refusal} (goodList marks list) (Ok tt) (Err NameList) g in
+            let k : e ≡ NameList = cc in ap Err k ∙ ap asParts (sym (bad-list g))
+      ]
+
+  passed-list : (r : Result (Unit {0}) Refusal) (u : Unit {0}) → r ≡ cond (goodList marks list) (Ok tt) (Err NameList) → r ≡ Ok u → goodList marks list ≡ true
+  passed-list r u h f =
+      elim (cases-bool (goodList marks list)) [
+        | inl g ↦ g
+        | inr g ↦
+            absurd
+            (let d = cond-false {A = Result (Unit {0}) Refusal} (goodList marks list) (Ok tt) (Err NameList) g in
+            let z : _≡_ {A = ℕ} 0 1 = cc in omega arith)
+      ]
+
+  pub refused-length : (r : Result (Unit {0}) Refusal) (u : Unit {0}) → r ≡ cond (goodList marks list) (Ok tt) (Err NameList) → r ≡ Ok u → false ≡ fitsLength t → Err TextLength ≡ asParts (reading list marks t)
+  refused-length r u h f l = ap asParts (sym (bad-length (passed-list r u h f) (sym l)))
+
+  flatten-marked : (x : Result (Syntax (List ℕ)) Refusal) → flatten (listed list) x ≡ asParts (marked (listed list) x)
+  flatten-marked (Ok s) = refl
+  flatten-marked (Err e) = refl
+
+  pub read-parts : (r : Result (Unit {0}) Refusal) (u : Unit {0}) (y : Result (List Part) Refusal) → r ≡ cond (goodList marks list) (Ok tt) (Err NameList) → r ≡ Ok u → true ≡ fitsLength t → y ≡ fitAll (listed list) (false, ([], [])) (scan 0 0 t) → y ≡ asParts (reading list marks t)
+  read-parts r u y h f l e =
+      e
+      ∙ (fit-reads (listed list) (scan 0 0 t)
+      ∙ (flatten-marked (readOn (listed list) (want []) (scan 0 0 t)) ∙ ap asParts (sym (both-good (passed-list r u h f) (sym l)))))
+
+-- what is left beside the parts
+pub answered : (r : Result (Unit {0}) Refusal) (ps : List Part) (x : Result (Syntax ℕ) Refusal) → withParts r ps ≡ asParts x → (r ≡ outcome x) × ((isErr r ≡ false → ps ≡ partsOf x) × (isErr r ≡ true → partsOf x ≡ []))
+answered (Ok u) ps (Ok t) e = (refl, ((λ h. let k : ps ≡ parts t = cc in k), λ h. absurd (both-ways true (sym h) refl)))
+answered (Ok u) ps (Err x) e = absurd (let z : _≡_ {A = ℕ} 0 1 = cc in omega arith)
+answered (Err x) ps (Ok t) e = absurd (let z : _≡_ {A = ℕ} 0 1 = cc in omega arith)
+answered (Err x) ps (Err y) e = (ap Err (let k : x ≡ y = cc in k), ((λ h. absurd (both-ways true h refl)), λ h. refl))
+
+pub tree-back : (x : Result (Syntax ℕ) Refusal) (t : Syntax ℕ) → x ≡ Ok t → built [] (partsOf x) ≡ t ∷ []
+tree-back x t e =
+    ap (λ y. built [] (partsOf y)) e ∙ (ap (built []) (sym (append-nil (parts t))) ∙ built-parts t [] [])
+
+-- a tree has no more parts than its writing has bytes
+one-byte : (w : Word) → Whole w [] → 1 ≤ length (spelling w)
+one-byte w h = front (spelling w ++ []) w (form-whole w [] h) .1 .1
+
+parts-short : (ns : List (List ℕ)) → AllProper ns → (s : Syntax ℕ) → MarksBelow (length ns) s → length (parts s) ≤ length (spelled (written (renamed (λ k. getD ns k []) s)))
+parts-short ns a (named k) h =
+    let p = and-parts (leb 1 (length (getD ns k [])) && leb (length (getD ns k [])) 8) (allLetters (getD ns k [])) (a k h) in
+    let q = and-parts (leb 1 (length (getD ns k []))) (leb (length (getD ns k [])) 8) (p .0) in
+    let o = leb-true 1 (length (getD ns k [])) (q .0) in
+    let l = ap length (append-nil (getD ns k [])) in omega arith
+parts-short ns a (truth true) h = omega arith
+parts-short ns a (truth false) h = omega arith
+parts-short ns a (unary u s) h =
+    let i = parts-short ns a s h in
+    let o = one-byte (before u) tt in
+    let p = length-append (parts s) (Unary u ∷ []) in
+    let q = length-append (spelling (before u)) (spelled (written (renamed (λ k. getD ns k []) s))) in omega arith
+parts-short ns a (binary o l r) h =
+    let f = λ (x : Syntax ℕ). written (renamed (λ k. getD ns k []) x) in
+    let i = parts-short ns a l (h .0) in
+    let j = parts-short ns a r (h .1) in
+    let b = one-byte (opening (openingOf o)) tt in
+    let p = length-append (parts l) (parts r ++ (Binary o ∷ [])) in
+    let q = length-append (parts r) (Binary o ∷ []) in
+    let end = closing (closingOf o) ∷ [] in
+    let mid = middle (middleOf o) ∷ (f r ++ end) in
+    let x = length-append (spelling (opening (openingOf o))) (spelled (f l ++ mid)) in
+    let y = ap length (spelled-append (f l) mid) in
+    let z = length-append (spelled (f l)) (spelled mid) in
+    let u = length-append (spelling (middle (middleOf o))) (spelled (f r ++ end)) in
+    let v = ap length (spelled-append (f r) end) in
+    let w = length-append (spelled (f r)) (spelled end) in omega arith
+
+pub few-parts : (list : List ℕ) (marks : ℕ) (t : List ℕ) (x : Result (Syntax ℕ) Refusal) → Reads list marks t x → length (partsOf x) ≤ 255
+few-parts list marks t (Err e) h = omega arith
+few-parts list marks t (Ok s) (inl (n, e)) = absurd (let z : _≡_ {A = ℕ} 0 1 = cc in omega arith)
+few-parts list marks t (Ok s) (inr (ns, (l, inl (n, e)))) = absurd (let z : _≡_ {A = ℕ} 0 1 = cc in omega arith)
+few-parts list marks t (Ok s) (inr (ns, (l, inr (a, (b, (e, m)))))) =
+    let p = parts-short ns (l .1 .1 .0) s m in let q = ap length e in omega arith

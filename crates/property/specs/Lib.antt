@@ -6,3 +6,4 @@ pub mod Writing
 pub mod Machine
 pub mod Reading
 pub mod Laws
+pub mod Flat

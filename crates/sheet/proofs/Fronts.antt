@@ -4,23 +4,14 @@ use mathlib.Core.Path.{_≡_, refl, sym, ap, _∙_}
 use mathlib.Core.List.{List, [], _∷_, _++_, append-assoc}
 use lib.ListN.{length, take, drop, getD}
 use native.Mathlib.Omega.{arith}
-use Rattle.std.proofs.shelf.Lists.{take-take, take-at, length-take-le, length-map, getD-take, getD-read}
-use Rattle.std.specs.Changed.{refilled}
+use Rattle.std.proofs.shelf.Lists.{length-take-le, length-map, getD-take}
 use Rattle.std.specs.Of.Vec.{vec-items, vec-len}
-use Rattle.std.specs.declared.vec.Vec.{Vec}
 use Rattle.ctl.specs.Rounds as rounds
 use Rattle.rounds.specs.Held.{heldLine, heldLines}
 use Rattle.rounds.specs.declared.line.Line.{Line}
 use Rattle.rounds.proofs.Reading.{line-found}
 use Rattle.sheet.specs.State.{stateOf}
 use Rattle.sheet.specs.declared.work.Work.{Work}
-
--- what was lent as the front is the front again
-pub front-refilled : {X Z : Type 0} (v : Vec X Z) (n : ℕ) (xs post : List X) → n ≤ vec-len v → length xs ≡ n → take n (vec-items (refilled v (xs ++ post))) ≡ xs
-front-refilled v n xs post h e =
-    take-take n (vec-len v) ((xs ++ post) ++ drop (length (xs ++ post)) (vec-items v)) h
-    ∙ ap (take n) (append-assoc xs post (drop (length (xs ++ post)) (vec-items v)))
-    ∙ take-at xs (post ++ drop (length (xs ++ post)) (vec-items v)) n e
 
 -- as many lines are in use as the tally says
 pub lines-held : (w : Work) → w .tally .lines ≤ length (vec-items (w .lines))
@@ -36,11 +27,3 @@ line-used w i l h e =
     let held = lines-held w in
     let long = length-take-le n (vec-items (w .lines)) held in
     line-found (take n (vec-items (w .lines))) i l rounds.noLine (omega arith) (e ∙ sym (getD-take n (vec-items (w .lines)) i l h))
-
--- the part that is lent is the lines in use, and comes back as long as it was
-pub lent-front : (n : ℕ) (ls vs : List Line) → ls ≡ vs → take (n - 0) ls ≡ take n vs
-lent-front n ls vs e = let z : n - 0 ≡ n = omega arith in ap (λ (m : ℕ). take m ls) z ∙ ap (take n) e
-
-pub lent-length : (w : Work) (ls xs : List Line) → ls ≡ vec-items (w .lines) → length xs ≡ length (take (w .tally .lines - 0) ls) → length xs ≡ w .tally .lines
-lent-length w ls xs e k =
-    k ∙ ap length (lent-front (w .tally .lines) ls (vec-items (w .lines)) e) ∙ length-take-le (w .tally .lines) (vec-items (w .lines)) (lines-held w)

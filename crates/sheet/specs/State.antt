@@ -21,6 +21,7 @@ use Rattle.property.specs.Syntax.{Syntax, propertyOf}
 use Rattle.ctl.specs.Rounds.{Progress, lineAt, turns, bound, rulesOf, roundsOf, plainOf, loopingOf, nothing, verdict, Line, decided, early}
 use Rattle.ctl.specs.declared.rule.Verdict.{Verdict}
 use Rattle.rounds.specs.Held.{progressOf}
+use Rattle.witness.specs.declared.scratch.Shown.{Shown as Told}
 use Rattle.sheet.specs.declared.work.Work.{Work}
 use Rattle.sheet.specs.declared.work.Counts.{Counts}
 
@@ -94,6 +95,15 @@ showing μ s i m room =
     (ltb i (length (p .lines)))
     (cond (ltb m (size μ)) (cond (ltb i (p .settled)) (borneOut μ p i m room) (Err NotSettled)) (Err NoSuchMode))
     (Err NoSuchLine)
+
+-- the same as the caller is told it: how many modes, and the place of the return; a refusal shows no mode
+abbrev pub told : Result Shown Refusal → Result Told Refusal
+told (Ok x) = Ok (record { modes = length (x .modes); returns = x .returns })
+told (Err e) = Err e
+
+abbrev pub modesOf : Result Shown Refusal → List ℕ
+modesOf (Ok x) = x .modes
+modesOf (Err e) = []
 
 -- what a line tells of a mode, settled or not
 abbrev pub toldBy : Line → Bool → ℕ → Verdict

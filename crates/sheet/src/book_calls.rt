@@ -3,8 +3,10 @@ ghost use Prim.Native.Nat.{_+_, _*_, _≤_};
 ghost use Rattle.ctl.specs.Chart.{size};
 ghost use Rattle.ctl.specs.Laws.{Sound, lineProperty};
 ghost use Rattle.ctl.specs.Runs.{Holds};
-ghost use Rattle.sheet.specs.Promises.{Told};
-ghost use Rattle.sheet.specs.State.{asked, countedUp, stateOf};
+ghost use Rattle.sheet.specs.Promises.{Shows, Told};
+ghost use Rattle.sheet.specs.State.{asked, countedUp, modesOf, showing, stateOf, told};
+ghost use Rattle.basis.specs.Lines.{overlaid};
+ghost use lib.ListN.{length};
 ghost use mathlib.Core.Path.{_≡_};
 use crate::states::Book;
 use crate::states::Sheet;
@@ -12,6 +14,7 @@ use crate::work::Counts;
 use basis::Refusal;
 use chart::Chart;
 use ctl::Verdict;
+use witness::Shown;
 
 impl<C: Chart> Book<C> {
     // Yes, no or pending of a line at a mode.
@@ -28,6 +31,18 @@ impl<C: Chart> Book<C> {
         ensures bounded { λ r. ⌜ (Sound (C·Chart .meaning (now (self .entry) .chart)) (stateOf (now (self .entry) .work) .progress) → r .rounds ≤ r .plain + (size (C·Chart .meaning (now (self .entry) .chart)) + 1) * r .looping) ⌝ }
     {
         self.work.count()
+    }
+
+    // Lays the path that bears out a settled line's answer at a mode into a buffer from its beginning; answers how many
+    // modes it has, and the place to which the last one returns.
+    pub fn show(&mut self, line: usize, mode: u16, path: &mut [u16]) -> Result<Shown, Refusal>
+        ensures answer { λ r. ⌜ r ≡ told (showing (C·Chart .meaning (now (self .entry) .chart)) (stateOf (now (self .entry) .work)) line mode (length (now (path .entry)))) ⌝ }
+        ensures buffer { λ _. ⌜ now (path .exit) ≡ overlaid (modesOf (showing (C·Chart .meaning (now (self .entry) .chart)) (stateOf (now (self .entry) .work)) line mode (length (now (path .entry))))) (now (path .entry)) ⌝ }
+        ensures after { λ _. ⌜ stateOf (now (self .exit) .work) ≡ stateOf (now (self .entry) .work) ⌝ }
+        ensures chart { λ _. ⌜ now (self .exit) .chart ≡ now (self .entry) .chart ⌝ }
+        ensures borne { λ r. ⌜ (Sound (C·Chart .meaning (now (self .entry) .chart)) (stateOf (now (self .entry) .work) .progress) → Shows (C·Chart .meaning (now (self .entry) .chart)) (stateOf (now (self .entry) .work) .progress) line mode r (now (path .exit))) ⌝ }
+    {
+        self.work.show(&self.chart, line, mode, path)
     }
 
     // The sheet again, with all that it had.

@@ -3,8 +3,10 @@
 mod asking;
 mod book_calls;
 mod counting;
+mod entering;
 mod making;
 mod sheet_calls;
+mod showing;
 pub mod states;
 pub mod work;
 

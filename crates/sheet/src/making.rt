@@ -5,9 +5,11 @@ ghost use Prim.Native.Nat.{_≤_};
 ghost use Rattle.std.specs.Of.Vec.{vec-cap, vec-items, vec-len};
 ghost use mathlib.Core.List.{[]};
 ghost use mathlib.Core.Path.{_≡_};
-use crate::work::Tally;
 use crate::work::Work;
 use basis::Refusal;
+use entry::Scratch;
+use entry::Tally;
+use property::postfix::Parts;
 use rounds::Line;
 use rounds::ModeSet;
 use std::alloc::Global;
@@ -41,14 +43,21 @@ impl Work {
         let lines = blank_lines(heap)?;
         let entries = room(heap, 32)?;
         let next = ModeSet::new(heap)?;
+        let parts = Parts::new(heap)?;
+        let writing = Scratch::new(heap)?;
+        let showing = witness::Scratch::new(heap)?;
+        let tally = Tally {
+            lines: 0,
+            settled: 0,
+        };
         Ok(Work {
             lines,
-            tally: Tally {
-                lines: 0,
-                settled: 0,
-            },
+            tally,
             entries,
             next,
+            parts,
+            writing,
+            showing,
         })
     }
 }

@@ -4,9 +4,12 @@ ghost use Rattle.ctl.specs.Chart.{size};
 ghost use Rattle.ctl.specs.Laws.{Sound, lineProperty};
 ghost use Rattle.ctl.specs.Rounds.{made};
 ghost use Rattle.ctl.specs.Runs.{Holds};
-ghost use Rattle.sheet.specs.Promises.{AllTold, Told};
-ghost use Rattle.sheet.specs.State.{advanced, asked, countedUp, emptied, finished, stateOf};
+ghost use Rattle.property.specs.Reading.{reading};
+ghost use Rattle.sheet.specs.Promises.{Accepted, AllTold, Shows, Told};
+ghost use Rattle.sheet.specs.State.{advanced, asked, countedUp, emptied, entered, finished, modesOf, showing, stateOf, told};
 ghost use Rattle.std.specs.Results.{Cases};
+ghost use Rattle.basis.specs.Lines.{overlaid};
+ghost use lib.ListN.{length};
 ghost use mathlib.Core.Path.{_≡_};
 use crate::states::Book;
 use crate::states::Sheet;
@@ -16,6 +19,7 @@ use basis::Refusal;
 use chart::Chart;
 use ctl::Verdict;
 use std::alloc::Global;
+use witness::Shown;
 
 impl<C: Chart> Sheet<C> {
     // A sheet without lines; all memory that it will ever need is taken here, and where there is none the chart comes back.
@@ -27,6 +31,17 @@ impl<C: Chart> Sheet<C> {
             Ok(work) => Ok(Sheet { chart, work }),
             Err(_) => Err(chart),
         }
+    }
+
+    // Writes the lines of a text's normal form and answers its own line, or refuses and leaves all as it was.
+    pub fn enter(&mut self, names: &[u8], text: &[u8]) -> Result<usize, Refusal>
+        ensures answer { λ r. ⌜ r ≡ entered (C·Chart .meaning (now (self .entry) .chart)) (stateOf (now (self .entry) .work)) (now (names .entry)) (now (text .entry)) .answer ⌝ }
+        ensures after { λ _. ⌜ stateOf (now (self .exit) .work) ≡ entered (C·Chart .meaning (now (self .entry) .chart)) (stateOf (now (self .entry) .work)) (now (names .entry)) (now (text .entry)) .after ⌝ }
+        ensures chart { λ _. ⌜ now (self .exit) .chart ≡ now (self .entry) .chart ⌝ }
+        ensures sound { λ _. ⌜ (Sound (C·Chart .meaning (now (self .entry) .chart)) (stateOf (now (self .entry) .work) .progress) → Sound (C·Chart .meaning (now (self .exit) .chart)) (stateOf (now (self .exit) .work) .progress)) ⌝ }
+        ensures written { λ r. ⌜ (Sound (C·Chart .meaning (now (self .entry) .chart)) (stateOf (now (self .entry) .work) .progress) → Accepted (C·Chart .meaning (now (self .exit) .chart)) (stateOf (now (self .exit) .work) .progress) (reading (now (names .entry)) (C·Chart .meaning (now (self .entry) .chart) .marks) (now (text .entry))) r) ⌝ }
+    {
+        self.work.enter(&self.chart, names, text)
     }
 
     // Rounds within a budget, each on the first line that is not settled; answers how many were made.
@@ -53,6 +68,18 @@ impl<C: Chart> Sheet<C> {
         ensures bounded { λ r. ⌜ (Sound (C·Chart .meaning (now (self .entry) .chart)) (stateOf (now (self .entry) .work) .progress) → r .rounds ≤ r .plain + (size (C·Chart .meaning (now (self .entry) .chart)) + 1) * r .looping) ⌝ }
     {
         self.work.count()
+    }
+
+    // Lays the path that bears out a settled line's answer at a mode into a buffer from its beginning; answers how many
+    // modes it has, and the place to which the last one returns.
+    pub fn show(&mut self, line: usize, mode: u16, path: &mut [u16]) -> Result<Shown, Refusal>
+        ensures answer { λ r. ⌜ r ≡ told (showing (C·Chart .meaning (now (self .entry) .chart)) (stateOf (now (self .entry) .work)) line mode (length (now (path .entry)))) ⌝ }
+        ensures buffer { λ _. ⌜ now (path .exit) ≡ overlaid (modesOf (showing (C·Chart .meaning (now (self .entry) .chart)) (stateOf (now (self .entry) .work)) line mode (length (now (path .entry))))) (now (path .entry)) ⌝ }
+        ensures after { λ _. ⌜ stateOf (now (self .exit) .work) ≡ stateOf (now (self .entry) .work) ⌝ }
+        ensures chart { λ _. ⌜ now (self .exit) .chart ≡ now (self .entry) .chart ⌝ }
+        ensures borne { λ r. ⌜ (Sound (C·Chart .meaning (now (self .entry) .chart)) (stateOf (now (self .entry) .work) .progress) → Shows (C·Chart .meaning (now (self .entry) .chart)) (stateOf (now (self .entry) .work) .progress) line mode r (now (path .exit))) ⌝ }
+    {
+        self.work.show(&self.chart, line, mode, path)
     }
 
     // Removes lines, entries and rounds; the chart stays.

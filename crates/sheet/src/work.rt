@@ -4,15 +4,11 @@ ghost use mathlib.Core.Path.{_≡_};
 ghost use Rattle.ctl.specs.Lines.{Distinct, Ordered};
 ghost use Rattle.sheet.specs.Used.{rulesIn};
 ghost use Rattle.std.specs.Of.Vec.{vec-cap, vec-items, vec-len};
+use entry::Scratch;
+use entry::Tally;
+use property::postfix::Parts;
 use rounds::Line;
 use rounds::ModeSet;
-
-// How many lines are written, and how many of them, from the first, are settled.
-#[derive(Clone, Copy)]
-pub struct Tally {
-    pub lines: usize,
-    pub settled: usize,
-}
 
 // Room for 64 lines and 32 entries, of which some are in use; what lies past the tally is no part of the sheet.
 #[derive(Drop)]
@@ -23,6 +19,11 @@ pub struct Work {
     pub(crate) entries: Vec<usize>,
     // the set that a round makes
     pub(crate) next: ModeSet,
+    // the parts of the text that is being entered, and what writing its lines needs
+    pub(crate) parts: Parts,
+    pub(crate) writing: Scratch,
+    // what showing a path needs
+    pub(crate) showing: witness::Scratch,
     ghost rooms: { vec-len lines ≡ 64 },
     ghost few: { tally .lines ≤ 64 },
     ghost listed: { vec-len entries ≤ 32 },

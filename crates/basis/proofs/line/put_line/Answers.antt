@@ -44,6 +44,7 @@ returns c =
     let same : c .in-Some .needed ≡ length (lineOf ps) = representable-some _ _ (c .in-Some .ensures tt) in
     let last = line-end ps (c .loop-piece .piece-index) (c .loop-piece-test .left) in
     record {
+      bound = omega arith;
       answer = ap Ok same ∙ sym (cond-true (leb (length (lineOf ps)) (length (c .args .out .now))) _ _ (le-leb _ _ fits));
       buffer =
           laid-one (c .loop-piece .out) (c .loop-piece .at) 10 (omega arith)

@@ -7,7 +7,8 @@ use Rattle.std.specs.declared.option.Option.{Option}
 use Rattle.std.specs.declared.option.Option.the-variants.{Some, None}
 use Rattle.basis.specs.Refusals.{numberOf, valueOf}
 use Rattle.basis.specs.Lines.{written, answered, overlaid, refusalLine}
-use Rattle.basis.proofs.Telling.{told, told-plain, told-at, told-short, at-short, written-answered}
+use Rattle.basis.proofs.Pieces.{written-answered}
+use Rattle.basis.proofs.Telling.{told, told-plain, told-at, told-short, at-short}
 use Rattle.basis.proofs.refusal.Refusal.write_line.Needs as need
 
 pub returns-in-None : need.returns-in-None
@@ -21,6 +22,7 @@ returns-in-None c =
           ∙ (ap (λ t. written t (length (c .args .out .now))) (told-plain n)
           ∙ (written-answered (told n None) (length (c .args .out .now)) (told-short n None (omega arith) (omega arith))
           ∙ ap (λ t. answered t (length (c .args .out .now))) line));
+      bound = c .put-line .ensures .bound;
       buffer = c .put-line .ensures .buffer ∙ ap (λ t. overlaid t (c .args .out .now)) (told-plain n ∙ line);
     }
 
@@ -36,5 +38,6 @@ returns-in-Some c =
           ∙ (ap (λ t. written t (length (c .args .out .now))) (told-at n v)
           ∙ (written-answered (told n (Some v)) (length (c .args .out .now)) (told-short n (Some v) (omega arith) (at-short v (omega arith)))
           ∙ ap (λ t. answered t (length (c .args .out .now))) line));
+      bound = c .put-line-in-Some .ensures .bound;
       buffer = c .put-line-in-Some .ensures .buffer ∙ ap (λ t. overlaid t (c .args .out .now)) (told-at n v ∙ line);
     }

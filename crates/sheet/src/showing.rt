@@ -1,0 +1,44 @@
+// Showing the path that bears out an answer.
+ghost use Rattle.basis.specs.Lines.{overlaid};
+ghost use Rattle.sheet.specs.State.{modesOf, showing, stateOf, told};
+ghost use lib.ListN.{length};
+ghost use mathlib.Core.Path.{_≡_};
+use crate::work::Work;
+use basis::Refusal;
+use chart::Chart;
+use witness::Shown;
+
+impl Work {
+    // Lays the path for a settled line's answer at a mode into a buffer from its beginning and leaves the rest; answers
+    // how many modes it has, and the place to which the last one returns.
+    pub fn show<C: Chart>(
+        &mut self,
+        chart: &C,
+        line: usize,
+        mode: u16,
+        path: &mut [u16],
+    ) -> Result<Shown, Refusal>
+        ensures answer { λ r. ⌜ r ≡ told (showing (C·Chart .meaning (now (chart .entry))) (stateOf (now (self .entry))) line mode (length (now (path .entry)))) ⌝ }
+        ensures buffer { λ _. ⌜ now (path .exit) ≡ overlaid (modesOf (showing (C·Chart .meaning (now (chart .entry))) (stateOf (now (self .entry))) line mode (length (now (path .entry))))) (now (path .entry)) ⌝ }
+        ensures after { λ _. ⌜ stateOf (now (self .exit)) ≡ stateOf (now (self .entry)) ⌝ }
+    {
+        if line >= self.tally.lines {
+            return Err(Refusal::NoSuchLine);
+        }
+        if mode >= chart.modes() {
+            return Err(Refusal::NoSuchMode);
+        }
+        if line >= self.tally.settled {
+            return Err(Refusal::NotSettled);
+        }
+        let count = self.tally.lines;
+        witness::show(
+            chart,
+            &self.lines[0..count],
+            line,
+            mode,
+            &mut self.showing,
+            path,
+        )
+    }
+}

@@ -1,0 +1,4 @@
+pub mod Path
+pub mod Criteria
+pub mod Shapes
+pub mod Showing
