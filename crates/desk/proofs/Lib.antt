@@ -2,3 +2,5 @@ pub mod Led
 pub mod Splits
 pub mod Answers
 pub mod Whole
+pub mod Cut
+pub mod Running

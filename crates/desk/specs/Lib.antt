@@ -2,3 +2,5 @@ pub mod Calls
 pub mod Steps
 pub mod Past
 pub mod Promise
+pub mod Rooms
+pub mod Told

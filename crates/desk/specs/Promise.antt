@@ -26,7 +26,7 @@ use Rattle.property.specs.Syntax.{Syntax, propertyOf}
 use Rattle.sheet.specs.declared.work.Counts.{Counts}
 use Rattle.desk.specs.Calls.{Call, enter, advance, ask, count, show, clear, finish, reopen}
 use Rattle.desk.specs.Calls.{Event, entered, advanced, asked, counted, showed, cleared, finished, reopened, barred, callIn}
-use Rattle.desk.specs.Steps.{Standing, step}
+use Rattle.desk.specs.Steps.{Standing, step, performed}
 use Rattle.desk.specs.Past.{Past, Text, past, propertyOfText, standingIn}
 
 -- the event stands in the log behind those before it
@@ -166,3 +166,7 @@ pub record Promise (μ : Meaning) (calls : List Call) (log : List Event) (last :
   pub counts-are-right : Counts-are-right μ log
   pub nothing-pending-past-the-bound : Nothing-pending-past-the-bound μ log
   pub shown-paths-bear-out : Shown-paths-bear-out μ log
+
+-- the calls lead from a clean desk to this log and to what stands there
+abbrev pub LeadsTo : Meaning → List Call → List Event → Standing → Type 0
+LeadsTo μ calls log last = performed μ calls ≡ record { log = log; last = last }
