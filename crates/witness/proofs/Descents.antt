@@ -1,13 +1,12 @@
 -- The walk down the numbers, one mode at a time.
-use Prim.Native.Nat.{ℕ, zero, suc, _+_, _-_, _<_, _≤_}
+use Prim.Native.Nat.{ℕ, suc, _-_, _≤_}
 use mathlib.Core.Path.{_≡_, refl, sym, ap, _∙_}
-use mathlib.Core.Bool.{Bool, true, false, cond}
 use mathlib.Core.List.{List, [], _∷_, _++_}
 use native.Mathlib.Omega.{arith}
 use lib.Dec.{eqb}
-use lib.ListN.{length, getD}
+use lib.ListN.{getD}
 use Rattle.std.proofs.shelf.Lists.{append-assoc, append-nil}
-use Rattle.ctl.specs.Chart.{Meaning, size}
+use Rattle.ctl.specs.Chart.{Meaning}
 use Rattle.ctl.specs.Paths.{firstWay, descent}
 
 module _ (μ : Meaning) (ns : List ℕ) where

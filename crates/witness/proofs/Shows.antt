@@ -1,15 +1,13 @@
 -- Showing, from the rule and the answer that the code reads; and that it does not depend on how many lines are settled.
-use Prim.Native.Nat.{ℕ, _≤_}
+use Prim.Native.Nat.{ℕ}
 use mathlib.Core.Path.{_≡_, refl, sym, ap, _∙_}
 use mathlib.Core.Bool.{Bool}
 use mathlib.Core.List.{List, []}
 use native.Mathlib.Omega.{arith}
-use lib.ListN.{length, getD}
+use lib.ListN.{getD}
 use Rattle.std.specs.declared.result.Result.{Result}
-use Rattle.std.specs.declared.result.Result.the-variants.{Ok, Err}
 use Rattle.basis.specs.Lines.{overlaid}
 use Rattle.basis.specs.declared.refusal.Refusal.{Refusal}
-use Rattle.basis.specs.declared.refusal.Refusal.the-variants.{NoSuchPath}
 use Rattle.ctl.specs.Chart.{Meaning}
 use Rattle.ctl.specs.Tests.{has}
 use Rattle.ctl.specs.Rounds.{Progress, lineAt}

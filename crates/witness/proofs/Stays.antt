@@ -1,5 +1,5 @@
 -- The walk that stays, one mode at a time.
-use Prim.Native.Nat.{ℕ, zero, suc, _+_, _-_, _<_, _≤_}
+use Prim.Native.Nat.{ℕ, suc, _+_, _-_, _<_, _≤_}
 use mathlib.Core.Path.{_≡_, refl, sym, ap, subst, _∙_}
 use mathlib.Core.Logic.{⊎-elim}
 use mathlib.Core.Bool.{Bool, true, false, cond}
@@ -7,13 +7,12 @@ use mathlib.Core.List.{List, [], _∷_, _++_}
 use native.Mathlib.Omega.{arith}
 use lib.Dec.{ltb}
 use lib.ListN.{length, getD, set, replicate}
-use Rattle.std.specs.declared.option.Option.{Option}
 use Rattle.std.specs.declared.option.Option.the-variants.{Some, None}
 use Rattle.std.proofs.shelf.Lists.{getD-past, length-push, length-set, length-replicate}
 use Rattle.std.proofs.shelf.Sums.{leading-le-length}
-use Rattle.std.proofs.shelf.Tests.{cases-lt, ltb-false, cases-bool, cond-true, cond-false, lt-ltb, le-ltb}
+use Rattle.std.proofs.shelf.Tests.{cases-lt, ltb-false, cond-true, cond-false}
 use Rattle.ctl.specs.Chart.{Meaning, Row, blank, size, waysOf, Lawful}
-use Rattle.ctl.specs.Paths.{Shown, firstOf, firstWay, positionOf, staying}
+use Rattle.ctl.specs.Paths.{firstOf, firstWay, positionOf, staying}
 use Rattle.witness.specs.Path.{placedAt}
 use Rattle.witness.proofs.Places.{Placed, placed-none, placed-more, placed-found, position-last}
 

@@ -1,30 +1,25 @@
 -- A path from the operands as the code reads them, and what is told of it.
 use Prim.Native.Nat.{ℕ, _<_, _≤_}
-use mathlib.Core.Path.{_≡_, refl, sym, ap, _∙_}
-use mathlib.Core.Bool.{Bool, true, false, cond, _&&_}
+use mathlib.Core.Path.{_≡_, sym, ap, _∙_}
+use mathlib.Core.Bool.{Bool, true, false, _&&_}
 use mathlib.Core.List.{List, [], _∷_, _++_}
 use lib.Dec.{leb}
-use lib.ListN.{length, getD, drop}
+use lib.ListN.{length}
 use denote.Ref.{now}
-use Rattle.std.specs.declared.result.Result.{Result}
 use Rattle.std.specs.declared.result.Result.the-variants.{Ok, Err}
 use Rattle.std.proofs.shelf.Lists.{length-reverse}
 use Rattle.std.proofs.shelf.Tests.{cond-true, cond-false, le-leb, lt-leb}
 use Rattle.basis.specs.Stacks.{held}
 use Rattle.basis.specs.Lines.{overlaid}
 use Rattle.basis.specs.declared.stack.Stack.{Stack}
-use Rattle.basis.specs.declared.refusal.Refusal.{Refusal}
-use Rattle.basis.specs.declared.refusal.Refusal.the-variants.{NoSuchPath, ShortPath}
+use Rattle.basis.specs.declared.refusal.Refusal.the-variants.{ShortPath}
 use Rattle.std.specs.declared.option.Option.{Option}
-use Rattle.std.specs.declared.option.Option.the-variants.{Some, None}
 use Rattle.ctl.specs.Chart.{Meaning, size}
-use Rattle.ctl.specs.Paths as paths
 use Rattle.ctl.specs.Paths.{reads, firstWay, staying}
 use Rattle.witness.specs.Criteria.{readBy, bothRead}
 use Rattle.witness.specs.Path.{pathOn, laidOver}
 use Rattle.witness.specs.Showing.{told}
 use Rattle.witness.specs.declared.reading.Reading.{Reading}
-use Rattle.witness.specs.declared.scratch.Shown.{Shown}
 use Rattle.witness.proofs.Laid.{length-held}
 
 pub read-is : (r : Reading) (answer : Bool) (s : List Bool) → now (r .set) ≡ s → r .answer ≡ answer → readBy r ≡ reads answer s

@@ -1,7 +1,7 @@
 -- The path that a stack of modes holds, a buffer with a path laid over it, and the places of modes in a path.
 use Prim.Native.Nat.{ℕ, _-_}
 use mathlib.Core.Bool.{cond}
-use mathlib.Core.List.{List, [], _∷_, _++_, reverse}
+use mathlib.Core.List.{List, _++_, reverse}
 use lib.Dec.{eqb, ltb}
 use lib.ListN.{length, getD, drop}
 use denote.Ref.{now}

@@ -9,7 +9,7 @@ use crate::reading::Reached;
 use crate::reading::Reading;
 use rounds::set::is_member;
 
-pub trait Criterion {
+pub(crate) trait Criterion {
     ghost test: { Self → ℕ → Bool };
 
     fn admits(&self, mode: u16) -> bool
@@ -17,7 +17,7 @@ pub trait Criterion {
 }
 
 // A mode's number in a table; past its end 0.
-pub fn number_of(numbers: &[u16], mode: u16) -> u16
+pub(crate) fn number_of(numbers: &[u16], mode: u16) -> u16
     ensures { λ r. ⌜ r ≡ getD (now (numbers .entry)) mode 0 ⌝ }
 {
     match numbers.get(mode as usize) {
@@ -26,7 +26,7 @@ pub fn number_of(numbers: &[u16], mode: u16) -> u16
     }
 }
 
-pub impl<'a> Criterion for Reading<'a> as ReadingCriterion {
+pub(crate) impl<'a> Criterion for Reading<'a> as ReadingCriterion {
     ghost test = { readBy };
 
     fn admits(&self, mode: u16) -> bool {
@@ -34,7 +34,7 @@ pub impl<'a> Criterion for Reading<'a> as ReadingCriterion {
     }
 }
 
-pub impl<'a> Criterion for Numbered<'a> as NumberedCriterion {
+pub(crate) impl<'a> Criterion for Numbered<'a> as NumberedCriterion {
     ghost test = { numberedBy };
 
     fn admits(&self, mode: u16) -> bool {
@@ -42,7 +42,7 @@ pub impl<'a> Criterion for Numbered<'a> as NumberedCriterion {
     }
 }
 
-pub impl<'a> Criterion for Reached<'a> as ReachedCriterion {
+pub(crate) impl<'a> Criterion for Reached<'a> as ReachedCriterion {
     ghost test = { reachedBy };
 
     fn admits(&self, mode: u16) -> bool {

@@ -1,8 +1,8 @@
 // A path on a stack, and from there into a caller's buffer.
 ghost use mathlib.Core.Path.{_≡_};
-ghost use mathlib.Core.List.{List, [], _∷_, _++_};
-ghost use Prim.Native.Nat.{ℕ, _+_, _-_, _<_, _≤_};
-ghost use lib.ListN.{length, drop};
+ghost use mathlib.Core.List.{[], _∷_, _++_};
+ghost use Prim.Native.Nat.{_+_, _<_, _≤_};
+ghost use lib.ListN.{length};
 ghost use denote.Ref.{name};
 ghost use Rattle.basis.specs.Lines.{overlaid};
 ghost use Rattle.witness.specs.Path.{pathOn, laidOver, traced};
@@ -12,7 +12,7 @@ use basis::Refusal;
 use basis::Stack;
 
 // Goes on to a mode.
-pub fn add(path: &mut Stack<'_, u16>, mode: u16)
+pub(crate) fn add(path: &mut Stack<'_, u16>, mode: u16)
     requires { ⌜ now path .count < length (now (now path .slots)) ⌝ }
     ensures holds { λ _. ⌜ pathOn (now (path .exit)) ≡ pathOn (now (path .entry)) ++ mode ∷ [] ⌝ }
     ensures count { λ _. ⌜ now (path .exit) .count ≡ now (path .entry) .count + 1 ⌝ }
@@ -34,7 +34,7 @@ fn lay(path: &mut Stack<'_, u16>, out: &mut [u16])
 }
 
 // Takes a path off its stack and lays it into a buffer; one that is too short is left as it is.
-pub fn deliver(
+pub(crate) fn deliver(
     path: &mut Stack<'_, u16>,
     returns: Option<usize>,
     out: &mut [u16],

@@ -1,11 +1,10 @@
 // How many modes the shortest path from each mode has, found by rounds.
 ghost use mathlib.Core.Path.{_≡_};
-ghost use mathlib.Core.Bool.{Bool};
-ghost use mathlib.Core.List.{List, map};
-ghost use Prim.Native.Nat.{ℕ, _≤_, _<_};
+ghost use mathlib.Core.List.{map};
+ghost use Prim.Native.Nat.{_≤_, _<_};
 ghost use lib.ListN.{replicate};
 ghost use Rattle.std.specs.Iters.{counting};
-ghost use Rattle.std.specs.Of.Vec.{vec-items, vec-len, vec-cap};
+ghost use Rattle.std.specs.Of.Vec.{vec-items, vec-cap};
 ghost use Rattle.ctl.specs.Chart.{size};
 ghost use Rattle.ctl.specs.Paths.{numbered as numberedAt, numbers as shortest};
 ghost use Rattle.witness.specs.Criteria.{readBy};
@@ -19,7 +18,7 @@ use crate::ways::has_way;
 use chart::Chart;
 
 // A table of so many modes with the number 0 at each.
-pub fn clear(table: &mut Vec<u16>, modes: u16)
+pub(crate) fn clear(table: &mut Vec<u16>, modes: u16)
     requires { ⌜ modes ≤ vec-cap (now table) ⌝ }
     ensures items { λ _. ⌜ vec-items (now (table .exit)) ≡ replicate modes 0 ⌝ }
     ensures room { λ _. ⌜ vec-cap (now (table .entry)) ≤ vec-cap (now (table .exit)) ⌝ }
@@ -76,7 +75,7 @@ fn number_round<C: Chart>(
 }
 
 // The numbers after as many rounds as there are modes, which is enough for every path.
-pub fn find_numbers<C: Chart>(
+pub(crate) fn find_numbers<C: Chart>(
     chart: &C,
     passing: Reading<'_>,
     ending: Reading<'_>,

@@ -3,7 +3,7 @@ use rounds::Line;
 
 // A line of a list, a mode, and the answer that the line has there.
 #[derive(Clone, Copy)]
-pub struct Asked<'a> {
+pub(crate) struct Asked<'a> {
     pub lines: &'a [Line],
     pub line: usize,
     pub mode: u16,
@@ -12,7 +12,7 @@ pub struct Asked<'a> {
 
 // The kinds of path, with the lines of the operands.
 #[derive(Clone, Copy)]
-pub enum Plan {
+pub(crate) enum Plan {
     // to the first way out with the answer
     Step(usize),
     // to a mode where the right operand has the answer, the left one before

@@ -1,6 +1,5 @@
 // Which path bears out an answer, from the line's rule.
 ghost use mathlib.Core.Path.{_≡_};
-ghost use mathlib.Core.Bool.{cond};
 ghost use Rattle.ctl.specs.Paths.{borne as borneBy, pathShape, shapeOf};
 ghost use Rattle.witness.specs.Shapes.{planOf, planned, plannedIf};
 use crate::plan::Plan;
@@ -36,7 +35,7 @@ fn plan_path(temporal: Temporal, answer: bool, p: usize, q: usize) -> Plan
 }
 
 // What path a kind of line has for an answer, if any.
-pub fn plan_for(rule: Rule, answer: bool) -> Option<Plan>
+pub(crate) fn plan_for(rule: Rule, answer: bool) -> Option<Plan>
     ensures { λ r. ⌜ planned r ≡ shapeOf rule answer ⌝ }
 {
     match rule {

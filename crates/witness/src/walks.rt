@@ -1,8 +1,7 @@
 // The two walks: down the numbers, and by the first way out that keeps an answer.
 ghost use mathlib.Core.Path.{_≡_};
-ghost use mathlib.Core.Bool.{Bool};
-ghost use mathlib.Core.List.{List, [], _++_};
-ghost use Prim.Native.Nat.{ℕ, _+_, _≤_, _<_};
+ghost use mathlib.Core.List.{[], _++_};
+ghost use Prim.Native.Nat.{_+_, _≤_, _<_};
 ghost use lib.ListN.{length, getD, set};
 ghost use denote.Ref.{name};
 ghost use Rattle.std.specs.Of.Vec.{vec-items, vec-len, vec-cap};
@@ -23,7 +22,7 @@ use basis::Stack;
 use chart::Chart;
 
 // Goes on by the first way out whose number is one less, as many modes as the number says.
-pub fn descend<C: Chart>(chart: &C, numbers: &[u16], mode: u16, path: &mut Stack<'_, u16>)
+pub(crate) fn descend<C: Chart>(chart: &C, numbers: &[u16], mode: u16, path: &mut Stack<'_, u16>)
     requires { ⌜ now path .count + getD (now numbers) mode 0 ≤ length (now (now path .slots)) ⌝ }
     ensures holds { λ _. ⌜ pathOn (now (path .exit)) ≡ pathOn (now (path .entry)) ++ descent (C·Chart .meaning (now (chart .entry))) (now (numbers .entry)) (getD (now (numbers .entry)) mode 0) mode ⌝ }
     ensures lender { λ _. ⌜ name (now (path .exit) .slots) ≡ name (now (path .entry) .slots) ⌝ }
@@ -66,7 +65,7 @@ fn closes(left: Reading<'_>, right: Reading<'_>, mode: u16) -> bool
 }
 
 // Goes on by the first way out with the answer, until both operands have it or a mode comes again: its place then.
-pub fn stay<C: Chart>(
+pub(crate) fn stay<C: Chart>(
     chart: &C,
     left: Reading<'_>,
     right: Reading<'_>,

@@ -1,7 +1,5 @@
 // The first way out of a mode that passes.
 ghost use mathlib.Core.Path.{_≡_};
-ghost use mathlib.Core.Bool.{Bool};
-ghost use Prim.Native.Nat.{ℕ};
 ghost use Rattle.std.specs.Options.{valueOr};
 ghost use Rattle.ctl.specs.Chart.{waysOf, wayAt};
 ghost use Rattle.ctl.specs.Tests.{any};
@@ -31,14 +29,14 @@ fn find_way<C: Chart, K: Criterion>(chart: &C, criterion: &K, mode: u16) -> Opti
 }
 
 // The first way out that passes, or the mode itself where none does.
-pub fn first_way<C: Chart, K: Criterion>(chart: &C, criterion: &K, mode: u16) -> u16
+pub(crate) fn first_way<C: Chart, K: Criterion>(chart: &C, criterion: &K, mode: u16) -> u16
     ensures { λ r. ⌜ r ≡ firstWay (C·Chart .meaning (now (chart .entry))) (K·Criterion .test (now (criterion .entry))) mode ⌝ }
 {
     find_way(chart, criterion, mode).unwrap_or(mode)
 }
 
 // Whether some way out passes.
-pub fn has_way<C: Chart, K: Criterion>(chart: &C, criterion: &K, mode: u16) -> bool
+pub(crate) fn has_way<C: Chart, K: Criterion>(chart: &C, criterion: &K, mode: u16) -> bool
     ensures { λ r. ⌜ r ≡ any (K·Criterion .test (now (criterion .entry))) (waysOf (C·Chart .meaning (now (chart .entry))) mode) ⌝ }
 {
     find_way(chart, criterion, mode).is_some()

@@ -1,7 +1,6 @@
-use mathlib.Core.Path.{_≡_, refl, sym, ap, _∙_}
+use mathlib.Core.Path.{refl, sym, _∙_}
 use denote.Ref.{now}
 use lib.ListN.{length}
-use Rattle.basis.specs.Stacks.{held}
 use Rattle.witness.specs.Path.{pathOn}
 use Rattle.witness.proofs.Traces.{length-path, told-short, told-laid, overlaid-short, overlaid-laid}
 use Rattle.witness.proofs.laying.deliver.Needs as need

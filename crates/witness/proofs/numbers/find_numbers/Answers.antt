@@ -1,5 +1,5 @@
 use borrow.Author.Needs.{needs}
-use mathlib.Core.Path.{_≡_, sym, _∙_}
+use mathlib.Core.Path.{_∙_}
 use native.Mathlib.Omega.{arith}
 use Rattle.witness.specs.Criteria.{readBy}
 use Rattle.witness.proofs.Counts.{numbers-none, numbers-more}

@@ -1,7 +1,7 @@
-use mathlib.Core.Path.{_≡_, sym, ap, _∙_}
+use mathlib.Core.Path.{_∙_}
 use lib.ListN.{length}
 use Rattle.ctl.specs.Paths.{none}
-use Rattle.witness.specs.Shapes.{planOf, planned}
+use Rattle.witness.specs.Shapes.{planOf}
 use Rattle.witness.proofs.Shows.{shows-answer, shows-buffer, shows-plan, shows-nothing}
 use Rattle.witness.proofs.showing.show.Needs as need
 

@@ -1,13 +1,13 @@
-use mathlib.Core.Path.{_≡_, sym, ap, _∙_}
+use mathlib.Core.Path.{sym, ap, _∙_}
 use mathlib.Core.List.{List}
-use Prim.Native.Nat.{ℕ, _≤_}
+use Prim.Native.Nat.{ℕ}
 use native.Mathlib.Omega.{arith}
 use lib.ListN.{getD}
 use denote.Ref.{now}
 use Rattle.std.specs.declared.option.Option.the-variants.{None}
 use Rattle.ctl.specs.Chart.{size}
 use Rattle.ctl.specs.Rounds.{lineAt}
-use Rattle.ctl.specs.Paths.{Shown, reads}
+use Rattle.ctl.specs.Paths.{reads}
 use Rattle.rounds.specs.Held.{progressOf}
 use Rattle.witness.specs.Path.{pathOn}
 use Rattle.witness.specs.Criteria.{readBy}

@@ -1,5 +1,4 @@
 use borrow.Author.Needs.{needs}
-use mathlib.Core.Path.{refl, sym}
 use Rattle.std.proofs.shelf.Lists.{set-past}
 use Rattle.witness.proofs.walks.note.Needs as need
 

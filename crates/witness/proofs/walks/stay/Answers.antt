@@ -1,14 +1,12 @@
-use borrow.Author.Needs.{needs}
 use mathlib.Core.Path.{_≡_, refl, sym, ap, subst, _∙_}
 use mathlib.Core.Bool.{Bool}
 use mathlib.Core.List.{List, [], _∷_, _++_}
-use Prim.Native.Nat.{ℕ, _<_, _≤_}
+use Prim.Native.Nat.{ℕ}
 use native.Mathlib.Omega.{arith}
-use lib.ListN.{length}
 use Rattle.std.specs.Of.Vec.{vec-items}
 use Rattle.std.specs.declared.option.Option.{Option}
 use Rattle.std.specs.declared.option.Option.the-variants.{Some, None}
-use Rattle.ctl.specs.Chart.{Meaning, size}
+use Rattle.ctl.specs.Chart.{Meaning}
 use Rattle.ctl.specs.Paths.{Shown}
 use Rattle.witness.specs.Path.{pathOn}
 use Rattle.witness.specs.Criteria.{readBy, bothRead}

@@ -2,7 +2,7 @@ use mathlib.Core.Path.{_≡_}
 use Prim.Native.Nat.{_≤_}
 use lib.ListN.{length}
 use denote.Ref.{now, name}
-use Rattle.std.specs.Of.Vec.{vec-items, vec-len, vec-cap}
+use Rattle.std.specs.Of.Vec.{vec-items, vec-cap}
 use Rattle.witness.specs.Path.{pathOn}
 use Rattle.witness.specs.Criteria.{readBy, bothRead}
 use Rattle.witness.proofs.Stays.{Walking}

@@ -1,5 +1,3 @@
-use mathlib.Core.Path.{sym, ap, _∙_}
-use Rattle.std.specs.Options.{valueOr}
 use Rattle.ctl.specs.Chart.{waysOf}
 use Rattle.witness.proofs.Firsts.{first-default}
 use Rattle.witness.proofs.ways.first_way.Needs as need
