@@ -78,14 +78,9 @@ fn trace<C: Chart>(
         Plan::Reach(p, q) => {
             let passing = read(asked, p);
             let ending = read(asked, q);
-            find_numbers(
-                chart,
-                passing,
-                ending,
-                &mut tables.numbers,
-                &mut tables.next,
-            );
-            descend(chart, &tables.numbers, mode, path);
+            let numbers = &mut tables.numbers;
+            find_numbers(chart, passing, ending, numbers, &mut tables.next);
+            descend(chart, numbers, mode, path);
             None
         }
         Plan::Stay(p, q) => {
