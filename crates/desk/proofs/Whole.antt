@@ -20,7 +20,7 @@ use Rattle.ctl.specs.Lines.{linesOf, formOf, noRule}
 use Rattle.ctl.specs.Paths.{Shape, shapeOf, Shown, shown}
 use Rattle.ctl.specs.PathLaws.{Answers, answerAt, shapeAt, Showable}
 use Rattle.ctl.specs.Property.{normal}
-use Rattle.ctl.specs.Rounds.{Progress, Line, noLine, lineAt, turns, made, bound, rulesOf, roundsOf, plainOf, loopingOf, verdict}
+use Rattle.ctl.specs.Rounds.{Progress, Line, noLine, lineAt, turns, made, after, bound, rulesOf, roundsOf, plainOf, loopingOf, verdict}
 use Rattle.ctl.specs.Runs.{Holds}
 use Rattle.ctl.specs.declared.rule.Rule.{Rule}
 use Rattle.ctl.specs.declared.rule.Verdict.{Verdict}
@@ -40,7 +40,7 @@ use Rattle.desk.specs.Calls.{Event, entered, advanced, asked, counted, showed,
 use Rattle.desk.specs.Steps.{Standing, stepOn, step, performed, cleanDesk, finishing}
 use Rattle.desk.specs.Past.{Past, Text, past, unbegun, propertyOfText, standingIn}
 use Rattle.desk.specs.Promise as promise
-use Rattle.desk.specs.Promise.{Comes, Paid, lineIn, AnsweredIn, Witnessed, BorneOut, Lacks, Promise}
+use Rattle.desk.specs.Promise.{Comes, Paid, lineIn, AnsweredIn, Witnessed, BorneOut, Lacks, Made, Promise}
 use Rattle.desk.proofs.Led.{Led, ReadsBack, clean-led}
 use Rattle.desk.proofs.Splits.{Found, found, calls-told, last-led, led-standing}
 use Rattle.desk.proofs.Answers.{asked-ok, Showed, showed-ok, not-settled, Accepts, Refuses, entered-ok, entered-err}
@@ -183,27 +183,28 @@ module _ (μ : Meaning) (b : Past) (d : Standing) (h : Led μ b d) where
             (a, (answers-from a (Holds μ (lineProperty p i) m) (settled-sets-hold μ p (h .sound) i m (k .settled) (k .mode)), at)),
       )
 
-  rounds-made : (k r : ℕ) → roundsOf (turns μ k p) ≡ roundsOf p + r → b .rounds + r ≤ bound μ (b .rules)
+  reached : p ≡ after μ (b .rules) (b .rounds)
+  reached = ap (λ (x : Standing). x .state .progress) (led-standing μ b d h)
+
+  rounds-made : (k r : ℕ) → r ≡ made μ k p → Made μ b k r
   rounds-made k r e =
       let t = rounds-keep-progress-sound μ p (h .sound) k in
       let a = rounds-within-bound μ (turns μ k p) (t .0) in
       let c = ap (bound μ) (t .1 .0 ∙ h .rules) in
+      let m = t .1 .1 in
       let n = h .rounds in
-      omega (arith, e, a, c, n)
-
-  advance-right : (k r : ℕ) → advanced k r ≡ step μ d (advance k) .event → (r ≤ k) × (b .rounds + r ≤ bound μ (b .rules))
-  advance-right k r e =
-      let a = advance-answer (d .book) μ s k r e in
-      let t = rounds-keep-progress-sound μ p (h .sound) k .1 .1 in
       let l = rounds-made-add-up μ p k 0 .1 in
-      (omega (arith, a, l), rounds-made k r (omega (arith, a, t)))
+      (e ∙ ap (made μ k) reached, (omega (arith, e, l), omega (arith, e, a, c, m, n)))
 
-  finish-right : (r : ℕ) → finished r ≡ step μ d finish .event → b .rounds + r ≤ bound μ (b .rules)
+  advance-right : (k r : ℕ) → advanced k r ≡ step μ d (advance k) .event → Made μ b k r
+  advance-right k r e = rounds-made k r (advance-answer (d .book) μ s k r e)
+
+  finish-right : (r : ℕ) → finished r ≡ step μ d finish .event → Made μ b (bound μ (b .rules)) r
   finish-right r e =
       let k = bound μ (rulesOf p) in
       let a = finish-answer (d .book) μ s r e in
       let t = rounds-keep-progress-sound μ p (h .sound) k .1 .1 in
-      rounds-made k r (omega (arith, a, t))
+      subst (λ (n : ℕ). Made μ b n r) (ap (bound μ) (h .rules)) (rounds-made k r (omega (arith, a, t)))
 
   texts-long : length (s .entries) ≡ length (b .texts)
   texts-long = ap (length {A = ℕ}) (h .entries) ∙ length-map (b .texts) (λ (x : Text). x .line)

@@ -4,3 +4,4 @@ pub mod Past
 pub mod Promise
 pub mod Rooms
 pub mod Told
+pub mod Examples

@@ -16,7 +16,7 @@ use Rattle.ctl.specs.Lines.{linesOf, formOf, noRule}
 use Rattle.ctl.specs.Paths.{Shape, shapeOf, Shown, Leads, Bears}
 use Rattle.ctl.specs.PathLaws.{Answers, Shortest, Described}
 use Rattle.ctl.specs.Property.{Property, Form, normal, written}
-use Rattle.ctl.specs.Rounds.{bound, plainOf, loopingOf}
+use Rattle.ctl.specs.Rounds.{bound, plainOf, loopingOf, made, after}
 use Rattle.ctl.specs.Runs.{Holds}
 use Rattle.ctl.specs.declared.rule.Rule.{Rule}
 use Rattle.ctl.specs.declared.rule.Verdict.{Verdict}
@@ -118,12 +118,17 @@ abbrev pub Texts-are-refused-for-their-cause : Meaning → List Event → Type 0
 Texts-are-refused-for-their-cause μ log =
     (before : List Event) (names text : List ℕ) (e : Refusal) → Comes log before (entered names text (Err e)) → Refused μ (past μ before) names text e
 
--- rounds are made as asked for, while a line is not settled; all together stay within the bound
+-- so many rounds are made, of those asked for, on the lines written and with the rounds made since the last clearing,
+-- and all together stay within the bound
+abbrev pub Made : Meaning → Past → ℕ → ℕ → Type 0
+Made μ b k r = (r ≡ made μ k (after μ (b .rules) (b .rounds))) × ((r ≤ k) × (b .rounds + r ≤ bound μ (b .rules)))
+
+-- advancing makes rounds as asked for, finishing as many as the lines can take
 abbrev pub Rounds-are-made-as-asked : Meaning → List Event → Type 0
 Rounds-are-made-as-asked μ log =
     (before : List Event) (k r : ℕ)
-    → (Comes log before (advanced k r) → (r ≤ k) × (past μ before .rounds + r ≤ bound μ (past μ before .rules)))
-    × (Comes log before (finished r) → past μ before .rounds + r ≤ bound μ (past μ before .rules))
+    → (Comes log before (advanced k r) → Made μ (past μ before) k r)
+    × (Comes log before (finished r) → Made μ (past μ before) (bound μ (past μ before .rules)) r)
 
 -- the calls that a book, or a sheet, does not have
 abbrev pub Lacks : Bool → Call → Type 0

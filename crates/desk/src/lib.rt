@@ -3,6 +3,7 @@
 pub mod calls;
 pub mod carrying;
 pub mod desks;
+pub mod examples;
 pub mod session;
 pub mod tasks;
 
