@@ -1,9 +1,6 @@
 -- One call more, at the end of a log.
-use Prim.Native.Nat.{ℕ}
 use mathlib.Core.Path.{_≡_, refl, sym, ap, subst, _∙_}
 use mathlib.Core.List.{List, [], _∷_, _++_, map, append-assoc, append-nil}
-use lib.ListN.{length}
-use native.Mathlib.Omega.{arith}
 use Rattle.ctl.specs.Chart.{Meaning, Lawful}
 use Rattle.desk.specs.Calls.{Call, Event}
 use Rattle.desk.specs.Steps.{Standing, step, Session, begun, performedFrom, performed, cleanDesk}
@@ -41,10 +38,6 @@ log-all μ d cs xs e = ap (λ (ys : List Call). xs ++ performedFrom μ d ys .log
 pub last-all : (μ : Meaning) (d : Standing) (cs : List Call) → cs ≡ [] → performedFrom μ d cs .last ≡ d
 unfolding performedFrom
 last-all μ d cs e = ap (λ (ys : List Call). performedFrom μ d ys .last) e
-
-pub none-left : {X : Type 0} (xs : List X) → length xs ≡ 0 → xs ≡ []
-none-left [] h = refl
-none-left (x ∷ xs) h = absurd (omega (arith, h))
 
 -- a call behind all others
 pub performed-more : (μ : Meaning) (d : Standing) (cs : List Call) (c : Call)

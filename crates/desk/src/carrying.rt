@@ -198,16 +198,23 @@ fn on_desk<'a, C: Chart>(desk: Desk<C>, task: Task<'a>) -> Step<'a, C>
     }
 }
 
+// A sheet without lines on a desk.
+fn set_up<C: Chart>(heap: Global, chart: C) -> Result<Desk<C>, C>
+    ensures { λ r. ⌜ Cases r (λ d. (chartOf d ≡ chart) × (standingOf d ≡ cleanDesk)) (λ c. c ≡ chart) ⌝ }
+{
+    match Sheet::new(heap, chart) {
+        Ok(sheet) => Ok(Desk::Sheet(sheet)),
+        Err(chart) => Err(chart),
+    }
+}
+
 impl<C: Chart> Desk<C> {
     // A clean desk: a sheet without lines; where there is no memory for it the chart comes back.
     pub fn new(heap: Global, chart: C) -> Result<Desk<C>, C>
         ensures made { λ r. ⌜ Cases r (λ d. (chartOf d ≡ chart) × (standingOf d ≡ cleanDesk)) (λ c. c ≡ chart) ⌝ }
         ensures leads { λ r. ⌜ Cases r (λ d. LeadsTo (C·Chart .meaning (chartOf d)) [] [] (standingOf d)) (λ _. Unit {0}) ⌝ }
     {
-        match Sheet::new(heap, chart) {
-            Ok(sheet) => Ok(Desk::Sheet(sheet)),
-            Err(chart) => Err(chart),
-        }
+        set_up(heap, chart)
     }
 
     // Carries out one call. Where the calls before led from a clean desk to this one with a log, the log with this event

@@ -3,7 +3,7 @@ use mathlib.Core.Path.{_≡_, refl, sym, ap, _∙_}
 use mathlib.Core.List.{List, [], _∷_, _++_, map}
 use lib.ListN.{length}
 use native.Mathlib.Omega.{arith}
-use Rattle.std.proofs.shelf.Lists.{map-append}
+use Rattle.std.proofs.shelf.Lists.{map-append, nil-from-length}
 use Rattle.std.specs.Of.IntoIter.{into-iter-items, into-iter-len}
 use Rattle.std.specs.Of.Vec.{vec-cap, vec-items, vec-len}
 use Rattle.ctl.specs.Chart.{Meaning}
@@ -12,14 +12,14 @@ use Rattle.desk.specs.Steps.{performedFrom}
 use Rattle.desk.specs.Told.{chartOf, eventOf, standingOf, taskOf}
 use Rattle.desk.specs.declared.calls.Event.{Event}
 use Rattle.desk.specs.declared.tasks.Task.{Task}
-use Rattle.desk.proofs.Running.{log-more, last-more, log-all, last-all, none-left}
+use Rattle.desk.proofs.Running.{log-more, last-more, log-all, last-all}
 use Rattle.desk.proofs.session.run.Needs as need
 
 pub loop-task-holds : need.loop-task-holds
 loop-task-holds g c =
     let i = c .into-iter-task-iterator .ensures .becomes in
     let n = c .args .log .ok .0 in
-    let e : vec-items (c .args .log) ≡ [] = none-left (vec-items (c .args .log)) (sym n ∙ c .pre .empty) in
+    let e : vec-items (c .args .log) ≡ [] = nil-from-length (vec-items (c .args .log)) (sym n ∙ c .pre .empty) in
     let a = c .pre .empty in
     let b = c .pre .room in
     let k = i .1 in
@@ -68,7 +68,7 @@ returns g c =
     let μ = g .C·Chart .meaning (chartOf (l .desk)) in
     let i = c .into-iter-task-iterator .ensures .becomes in
     let n = c .in-None .ensures tt .steps .0 in
-    let none : into-iter-items (l .task-iterator) ≡ [] = none-left (into-iter-items (l .task-iterator)) (sym (l .task-iterator .rest .ok .0) ∙ n) in
+    let none : into-iter-items (l .task-iterator) ≡ [] = nil-from-length (into-iter-items (l .task-iterator)) (sym (l .task-iterator .rest .ok .0) ∙ n) in
     let left = ap (map taskOf) none in
     let d = standingOf (l .desk) in
     let all = ap (map taskOf) (i .0) in

@@ -1,13 +1,14 @@
-use mathlib.Core.Path.{sym, ap}
-use Rattle.desk.specs.Steps.{Session, asSheet, performedFrom}
-use Rattle.sheet.specs.State.{State}
+use Rattle.std.proofs.shelf.Results.{cases-weaker}
+use Rattle.desk.specs.Told.{chartOf, standingOf}
 use Rattle.desk.proofs.Running.{leads-none}
 use Rattle.desk.proofs.desks.Desk.new.Needs as need
 
-pub returns-in-Ok : need.returns-in-Ok
-returns-in-Ok g c =
-    let h = c .in-Ok .ensures tt .made in
+pub returns : need.returns
+returns g c =
     record {
-      made = (h .0, ap asSheet (h .1));
-      leads = leads-none (g .C·Chart .meaning (c .in-Ok .sheet .chart)) _ (ap asSheet (h .1));
+      made = c .set-up .ensures;
+      leads =
+          cases-weaker (c .set-up .result) (c .set-up .ensures)
+          (λ d h. leads-none (g .C·Chart .meaning (chartOf d)) (standingOf d) (h .1))
+          (λ e h. tt);
     }
