@@ -1,1 +1,1 @@
-pub mod Summary
+pub mod Output

@@ -1,4 +1,4 @@
-// Reading the files that the program works on.
+// Reading the chart file and standard input.
 ghost use Prim.Native.Nat.{_≤_};
 ghost use Rattle.std.specs.Vec.{made};
 ghost use lib.ListN.{length};
@@ -8,7 +8,7 @@ use std::io::ErrorKind;
 use std::io::Read;
 
 // How many bytes of `chart.mch` were read, at most as many as the buffer holds. A missing file is empty.
-pub(crate) fn read_chart_file(rt: &LibcRuntime, file: &mut [u8]) -> io::Result<usize>
+pub fn read_chart_file(rt: &LibcRuntime, file: &mut [u8]) -> io::Result<usize>
     ensures { λ r. ⌜ made r (λ n. n ≤ length (now (file .entry))) ⌝ }
 {
     match fs::open(rt, "chart.mch") {
@@ -18,8 +18,8 @@ pub(crate) fn read_chart_file(rt: &LibcRuntime, file: &mut [u8]) -> io::Result<u
     }
 }
 
-// Reads until the buffer is full or the input ends.
-fn fill(input: &mut fs::File, buffer: &mut [u8]) -> io::Result<usize>
+// How many bytes were read until the buffer was full or the input ended.
+pub fn fill<R: Read>(input: &mut R, buffer: &mut [u8]) -> io::Result<usize>
     ensures { λ r. ⌜ made r (λ n. n ≤ length (now (buffer .entry))) ⌝ }
 {
     let mut done = 0;
