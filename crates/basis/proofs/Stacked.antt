@@ -1,5 +1,5 @@
 -- What a stack over a slice holds after one more element, and how its newest is read.
-use Prim.Native.Nat.{ℕ, zero, suc, _+_, _-_, _<_, _≤_}
+use Prim.Native.Nat.{ℕ, _+_, _-_, _<_, _≤_}
 use mathlib.Core.Path.{_≡_, refl, ap, _∙_, sym}
 use mathlib.Core.Logic.{inl, inr}
 use mathlib.Core.List.{List, [], _∷_, _++_, reverse}
@@ -11,31 +11,29 @@ use Rattle.std.specs.declared.option.Option.{Option}
 use Rattle.std.specs.declared.option.Option.the-variants.{Some, None}
 use Rattle.basis.specs.Stacks.{held, newest, older}
 
-held-is : {X : Type 0} (n : ℕ) (xs : List X) → held n xs ≡ reverse (take n xs)
-held-is zero xs = refl
-held-is (suc n) xs = refl
+pub held-none : {X : Type 0} (xs : List X) → held 0 xs ≡ []
+unfolding held
+held-none xs = refl
 
 pub held-set : {X : Type 0} (n : ℕ) (xs : List X) (x : X) → n < length xs → held (n + 1) (set xs n x) ≡ x ∷ held n xs
-held-set n xs x h =
-    held-is (n + 1) (set xs n x)
-    ∙ (ap reverse (take-more-set xs n x h) ∙ (reverse-append (take n xs) (x ∷ []) ∙ ap (λ ys. x ∷ ys) (sym (held-is n xs))))
+unfolding held
+held-set n xs x h = ap reverse (take-more-set xs n x h) ∙ reverse-append (take n xs) (x ∷ [])
 
 pub held-more : {X : Type 0} (n : ℕ) (xs : List X) (d : X) → n < length xs → held (n + 1) xs ≡ getD xs n d ∷ held n xs
-held-more n xs d h =
-    held-is (n + 1) xs
-    ∙ (ap reverse (take-more xs n d h)
-    ∙ (reverse-append (take n xs) (getD xs n d ∷ []) ∙ ap (λ ys. getD xs n d ∷ ys) (sym (held-is n xs))))
+unfolding held
+held-more n xs d h = ap reverse (take-more xs n d h) ∙ reverse-append (take n xs) (getD xs n d ∷ [])
 
 pub length-held : {X : Type 0} (n : ℕ) (xs : List X) → n ≤ length xs → length (held n xs) ≡ n
-length-held n xs h = ap length (held-is n xs) ∙ (length-reverse (take n xs) ∙ length-take-le n xs h)
+unfolding held
+length-held n xs h = length-reverse (take n xs) ∙ length-take-le n xs h
 
 -- an empty stack, and one that is not
 pub newest-none : {X : Type 0} (n : ℕ) (xs : List X) → n ≡ 0 → None ≡ newest (held n xs)
-newest-none n xs e = ap (λ k. newest (held k xs)) (sym e)
+newest-none n xs e = ap newest (sym (held-none xs) ∙ ap (λ k. held k xs) (sym e))
 
 pub older-none : {X : Type 0} (n : ℕ) (xs : List X) → n ≡ 0 → held n xs ≡ older (held n xs)
 older-none n xs e =
-    let h : held n xs ≡ [] = ap (λ k. held k xs) e in h ∙ sym (ap older h)
+    let h : held n xs ≡ [] = ap (λ k. held k xs) e ∙ held-none xs in h ∙ sym (ap older h)
 
 held-back : {X : Type 0} (n : ℕ) (xs : List X) (d : X) → (n ≡ 0 → ⊥) → n ≤ length xs → held n xs ≡ getD xs (n - 1) d ∷ held (n - 1) xs
 held-back n xs d ne h =

@@ -75,18 +75,8 @@ impl<'a, T: Copy> Stack<'a, T> {
         if self.count == 0 {
             return None;
         }
-        self.shrink();
-        Some(self.slots[self.count])
-    }
-
-    // Forgets the newest element.
-    fn shrink(&mut self)
-        requires { ⌜ (now self .count ≡ 0 → ⊥) ⌝ }
-        ensures slots { λ _. ⌜ now (now (self .exit) .slots) ≡ now (now (self .entry) .slots) ⌝ }
-        ensures count { λ _. ⌜ now (self .exit) .count ≡ now (self .entry) .count - 1 ⌝ }
-        ensures lender { λ _. ⌜ name (now (self .exit) .slots) ≡ name (now (self .entry) .slots) ⌝ }
-    {
         self.count -= 1;
+        Some(self.slots[self.count])
     }
 
     // The newest element, which stays.

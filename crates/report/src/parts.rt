@@ -7,7 +7,7 @@ ghost use mathlib.Core.Path.{_≡_};
 use basis::Piece;
 use ctl::Verdict;
 
-pub fn heading(modes: usize, marks: usize, start: usize) -> [Piece<'static>; 7]
+pub(crate) fn heading(modes: usize, marks: usize, start: usize) -> [Piece<'static>; 7]
     ensures spelled { λ r. ⌜ joined spelling r ≡ headingLine modes marks start ⌝ }
     ensures count { λ r. ⌜ length r ≡ 7 ⌝ }
 {
@@ -22,7 +22,7 @@ pub fn heading(modes: usize, marks: usize, start: usize) -> [Piece<'static>; 7]
     ]
 }
 
-pub fn word(answer: Verdict) -> &'static [u8]
+pub(crate) fn word(answer: Verdict) -> &'static [u8]
     ensures { λ r. ⌜ now r ≡ wordOf answer ⌝ }
 {
     match answer {
@@ -32,7 +32,12 @@ pub fn word(answer: Verdict) -> &'static [u8]
     }
 }
 
-pub fn entry(number: usize, line: usize, answer: Verdict, rounds: usize) -> [Piece<'static>; 8]
+pub(crate) fn entry(
+    number: usize,
+    line: usize,
+    answer: Verdict,
+    rounds: usize,
+) -> [Piece<'static>; 8]
     ensures spelled { λ r. ⌜ joined spelling r ≡ entryLine number line answer rounds ⌝ }
     ensures count { λ r. ⌜ length r ≡ 8 ⌝ }
 {
@@ -49,7 +54,7 @@ pub fn entry(number: usize, line: usize, answer: Verdict, rounds: usize) -> [Pie
 }
 
 // Without its line end.
-pub fn total(rounds: usize, most: usize) -> [Piece<'static>; 4]
+pub(crate) fn total(rounds: usize, most: usize) -> [Piece<'static>; 4]
     ensures spelled { λ r. ⌜ joined spelling r ≡ totalText rounds most ⌝ }
     ensures count { λ r. ⌜ length r ≡ 4 ⌝ }
 {

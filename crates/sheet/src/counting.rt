@@ -52,7 +52,7 @@ fn looping_of(lines: &[Line]) -> usize
 
 impl Work {
     // Rounds made since the sheet was last empty, and its plain and looping lines.
-    pub fn count(&self) -> Counts
+    pub(crate) fn count(&self) -> Counts
         ensures { λ r. ⌜ r ≡ countedUp (stateOf (now (self .entry))) ⌝ }
     {
         let lines = &self.lines[0..self.tally.lines];
@@ -75,7 +75,7 @@ fn most_of(modes: u16, counts: Counts) -> u16
 
 impl Work {
     // The most rounds that the lines can take.
-    pub fn most_rounds<C: Chart>(&self, chart: &C) -> u16
+    pub(crate) fn most_rounds<C: Chart>(&self, chart: &C) -> u16
         ensures { λ r. ⌜ r ≡ bound (C·Chart .meaning (now (chart .entry))) (rulesOf (stateOf (now (self .entry)) .progress)) ⌝ }
     {
         let counts = self.count();

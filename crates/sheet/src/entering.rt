@@ -9,7 +9,7 @@ use property::reading::read;
 
 impl Work {
     // Writes the lines of a text's normal form and answers its own line, or refuses and leaves all as it was.
-    pub fn enter<C: Chart>(
+    pub(crate) fn enter<C: Chart>(
         &mut self,
         chart: &C,
         names: &[u8],

@@ -38,7 +38,7 @@ fn blank_lines(heap: Global) -> Result<Vec<Line>, Refusal>
 
 impl Work {
     // A sheet without lines, or want of memory.
-    pub fn new(heap: Global) -> Result<Work, Refusal>
+    pub(crate) fn new(heap: Global) -> Result<Work, Refusal>
         ensures { λ r. ⌜ whenMade r (λ w. stateOf w ≡ emptied) ⌝ }
     {
         let lines = blank_lines(heap)?;

@@ -77,7 +77,7 @@ fn draft_rows(
 
 impl Work {
     // The lines of the report, laid into a buffer whole or not at all; answers how many bytes they have.
-    pub fn report<C: Chart>(&mut self, chart: &C, out: &mut [u8]) -> Result<usize, Refusal>
+    pub(crate) fn report<C: Chart>(&mut self, chart: &C, out: &mut [u8]) -> Result<usize, Refusal>
         ensures answer { λ r. ⌜ r ≡ answered (bytesOf (C·Chart .meaning (now (chart .entry))) (stateOf (now (self .entry)))) (length (now (out .entry))) ⌝ }
         ensures buffer { λ _. ⌜ now (out .exit) ≡ overlaid (bytesOf (C·Chart .meaning (now (chart .entry))) (stateOf (now (self .entry)))) (now (out .entry)) ⌝ }
         ensures after { λ _. ⌜ stateOf (now (self .exit)) ≡ stateOf (now (self .entry)) ⌝ }
