@@ -1,12 +1,20 @@
 // Showing the path that bears out an answer.
 ghost use Rattle.basis.specs.Lines.{overlaid};
 ghost use Rattle.sheet.specs.State.{modesOf, showing, stateOf, told};
+ghost use lib.Dec.{leb};
 ghost use lib.ListN.{length};
 ghost use mathlib.Core.Path.{_≡_};
 use crate::work::Work;
 use basis::Refusal;
 use chart::Chart;
 use witness::Shown;
+
+// Whether a line still waits for rounds: the first so many lines are settled.
+fn is_waiting(line: usize, settled: usize) -> bool
+    ensures { λ r. ⌜ r ≡ leb settled line ⌝ }
+{
+    line >= settled
+}
 
 impl Work {
     // Lays the path for a settled line's answer at a mode into a buffer from its beginning and leaves the rest; answers
@@ -28,7 +36,7 @@ impl Work {
         if mode >= chart.modes() {
             return Err(Refusal::NoSuchMode);
         }
-        if line >= self.tally.settled {
+        if is_waiting(line, self.tally.settled) {
             return Err(Refusal::NotSettled);
         }
         let count = self.tally.lines;

@@ -54,7 +54,7 @@ fn a_sheet_is_full(rt: LibcRuntime) -> Result<(), Fail> {
     };
     let mut sheet = blank(rt.alloc())?;
     check_eq(sheet.enter(NAMES, LONGEST), Ok(63))?;
-    check_eq(sheet.enter(NAMES, b"EXfirst&last"), full)?;
+    check_eq(sheet.enter(NAMES, b"(EXfirst&last)"), full)?;
     check_eq(sheet.count(), counts)?;
     for _ in 0..31u8 {
         check_eq(sheet.enter(NAMES, b"first"), Ok(0))?;

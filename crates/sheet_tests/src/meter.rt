@@ -57,8 +57,8 @@ fn answers_come_early(rt: LibcRuntime) -> Result<(), Fail> {
     check_eq(shown, Err(Refusal::NotSettled))?;
     check_eq(sheet.advance(65535), 5)?;
     check_eq(sheet.ask(6, 0), Ok(Verdict::Yes))?;
-    let refused = sheet.enter(NAMES, b"vacant&EXabsent");
-    check_eq(refused, Err(Refusal::UnknownName(9)))?;
+    let refused = sheet.enter(NAMES, b"(vacant&EXabsent)");
+    check_eq(refused, Err(Refusal::UnknownName(10)))?;
     check_eq(sheet.ask(7, 0), Err(Refusal::NoSuchLine))?;
     check_eq(sheet.enter(NAMES, WILL_PAY), Ok(9))?;
     check_eq(sheet.ask(9, 0), Ok(Verdict::Pending))?;
@@ -145,5 +145,5 @@ fn sheets_are_reopened_and_cleared(rt: LibcRuntime) -> Result<(), Fail> {
     sheet.clear();
     check_eq(sheet.ask(0, 0), Err(Refusal::NoSuchLine))?;
     check_eq(sheet.enter(NAMES, WILL_PAY), Ok(6))?;
-    check_eq(sheet.advance(65535), 12)
+    check_eq(sheet.advance(65535), 11)
 }

@@ -3,6 +3,7 @@ use mathlib.Core.Path.{_≡_, refl, sym, ap, _∙_}
 use mathlib.Core.List.{List}
 use lib.ListN.{length, take}
 use native.Mathlib.Omega.{arith}
+use Rattle.std.proofs.shelf.Tests.{leb-true, leb-false}
 use Rattle.std.specs.Of.Vec.{vec-items}
 use Rattle.std.specs.declared.result.Result.{Result}
 use Rattle.basis.specs.Lines.{overlaid}
@@ -35,12 +36,12 @@ returns-then-mode-modes g c =
     let e = show-no-mode (g .C·Chart .meaning (c .args .chart .now)) (stateOf w) (c .args .line) (c .args .mode) (length buffer) (rw (lines-used w) (c .if-line-self .left)) (omega arith) in
     record { answer = refused-answer x NoSuchMode e; buffer = refused-buffer x NoSuchMode buffer e; after = refl }
 
-pub returns-then-line-self-2 : need.returns-then-line-self-2
-returns-then-line-self-2 g c =
+pub returns-then-is-waiting : need.returns-then-is-waiting
+returns-then-is-waiting g c =
     let w = c .args .self .now in
     let buffer = c .args .path .now in
     let x = showing (g .C·Chart .meaning (c .args .chart .now)) (stateOf w) (c .args .line) (c .args .mode) (length buffer) in
-    let e = show-not-settled (g .C·Chart .meaning (c .args .chart .now)) (stateOf w) (c .args .line) (c .args .mode) (length buffer) (rw (lines-used w) (c .if-line-self .left)) (omega arith) (c .if-line-self-2 .taken) in
+    let e = show-not-settled (g .C·Chart .meaning (c .args .chart .now)) (stateOf w) (c .args .line) (c .args .mode) (length buffer) (rw (lines-used w) (c .if-line-self .left)) (omega arith) (leb-true (w .tally .settled) (c .args .line) (sym (c .is-waiting .ensures) ∙ c .if-is-waiting .taken)) in
     record { answer = refused-answer x NotSettled e; buffer = refused-buffer x NotSettled buffer e; after = refl }
 
 pub returns : need.returns
@@ -52,7 +53,7 @@ returns g c =
     let m = c .args .mode in
     let buffer = c .args .path .now in
     let lent = lent-used w (c .deref .result .now) (c .deref .ensures .value) in
-    let e = show-settled μ (stateOf w) i m (length buffer) (rw (lines-used w) (c .if-line-self .left)) (omega arith) (c .if-line-self-2 .left) in
+    let e = show-settled μ (stateOf w) i m (length buffer) (rw (lines-used w) (c .if-line-self .left)) (omega arith) (leb-false (w .tally .settled) (c .args .line) (sym (c .is-waiting .ensures) ∙ c .if-is-waiting .left)) in
     record {
       answer =
           c .show .ensures .answer
