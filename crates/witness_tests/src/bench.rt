@@ -33,6 +33,7 @@ pub fn settled<C: Chart>(heap: Global, chart: &C, rules: &[Rule]) -> Result<Vec<
     }
     let mut next = ModeSet::new(heap)?;
     let mut done = 0;
-    let _ = advance(chart, &mut lines, &mut done, &mut next, 1000);
+    let count = lines.len();
+    let _ = advance(chart, &mut lines, count, &mut done, &mut next, 1000);
     Ok(lines)
 }
