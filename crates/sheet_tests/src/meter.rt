@@ -70,6 +70,13 @@ fn answers_come_early(rt: LibcRuntime) -> Result<(), Fail> {
     check_eq(sheet.count(), counts)
 }
 
+// A line feed begins no token.
+#[test]
+fn a_line_feed_is_no_token(rt: LibcRuntime) -> Result<(), Fail> {
+    let mut sheet = blank(rt.alloc())?;
+    check_eq(sheet.enter(NAMES, b"\n"), Err(Refusal::NoToken(0)))
+}
+
 // A line, a mode, how many modes are shown, where the last one returns, and three nines after it.
 const PATHS: [(usize, u16, usize, Option<usize>, [u16; 3]); 3] = [
     (9, 0, 2, None, [0, 1, 9]),
