@@ -1,5 +1,7 @@
 // What every crate of the product shares: the refusals, lines of text written into a caller's buffer, and a stack over
 // a slice.
+#![tactic(auto)]
+
 pub mod line;
 pub mod refusal;
 pub mod stack;

@@ -1,5 +1,7 @@
 // Charts as the checker asks them: the questions of a chart with their answers, and the charts there are, which are
 // counters, charts read from a file, pairs of charts, and lent charts.
+#![tactic(auto)]
+
 pub mod chart;
 pub mod counter;
 pub mod filed;

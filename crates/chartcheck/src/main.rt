@@ -1,5 +1,7 @@
 // The program that depots run: it opens the chart file of its folder, enters every property text of standard input, and
 // prints the report of the finished book, or the line of the first refusal.
+#![tactic(auto)]
+
 use std::io;
 use std::io::Write;
 

@@ -1,5 +1,7 @@
 // The program for fitters: it opens the chart file of its folder, takes the names from the first line of standard input
 // and one call from each further line, and prints each with its answer before it reads the next.
+#![tactic(auto)]
+
 ghost use Rattle.basis.specs.declared.refusal.Refusal.TheVariants.{Memory};
 ghost use Rattle.chart.specs.Filed.{chart_of as meaning_of};
 ghost use Rattle.chart.specs.Files.{fault, file_chart};

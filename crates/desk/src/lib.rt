@@ -1,5 +1,7 @@
 // The desk: any succession of calls on a sheet, or the book it became, with a log of their answers and a promise over
 // the whole of it.
+#![tactic(auto)]
+
 pub mod calls;
 pub mod carrying;
 pub mod desks;

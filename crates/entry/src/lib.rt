@@ -1,5 +1,7 @@
 // The lines of a property's positive normal form, written behind the lines that a sheet has already, or refused with the
 // count of lines as it was.
+#![tactic(auto)]
+
 pub mod count;
 pub mod enter;
 pub mod memory;

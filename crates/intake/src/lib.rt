@@ -1,4 +1,6 @@
 // What the programs read: the chart file, standard input, and the lines in it.
+#![tactic(auto)]
+
 mod files;
 mod lines;
 

@@ -1,5 +1,7 @@
 // From a text to its property: the list of names, the tokens, the grammar, and the property's parts in postfix order,
 // or the first fault in reading order at its exact position.
+#![tactic(auto)]
+
 mod grammar;
 pub mod names;
 pub mod postfix;

@@ -1,5 +1,7 @@
 // A program for the cases of reading: each line of its input has the number of marks (a digit), a list of names and a
 // text, with `;` behind the first two. It prints the parts, one letter each, or the refusal with its position.
+#![tactic(auto)]
+
 mod letters;
 
 use crate::letters::{letter, numbered};

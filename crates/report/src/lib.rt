@@ -1,4 +1,6 @@
 // The report of a book: its bytes, drafted line by line and laid into a caller's buffer whole or not at all.
+#![tactic(auto)]
+
 pub mod draft;
 pub mod laws;
 mod parts;

@@ -1,6 +1,8 @@
 // A second checker, which decides properties by going through the chart's graph, and its comparison with the sheet and
 // the book on random charts and texts. It prints its seed, the number of charts, each disagreement, and how many there
 // are.
+#![tactic(auto)]
+
 mod answers;
 mod comparing;
 mod deciding;

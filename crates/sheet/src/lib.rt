@@ -1,5 +1,7 @@
 // The sheet and the book: texts are entered on a sheet, rounds are made, lines are asked about; a finished sheet is a
 // book, whose report can be written.
+#![tactic(auto)]
+
 mod asking;
 mod book_calls;
 mod counting;

@@ -1,4 +1,6 @@
 // The path that is shown for a settled line's answer: the modes that bear it out, and where the last one returns.
+#![tactic(auto)]
+
 mod criterion;
 mod laying;
 mod numbers;
