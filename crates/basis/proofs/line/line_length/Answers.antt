@@ -5,17 +5,17 @@ use Rattle.basis.specs.Lines.{spelling, line_of}
 use Rattle.basis.proofs.Pieces.{length-step, length-line, representable-below, representable-above}
 use Rattle.basis.proofs.line.line_length.Goals as goal
 
-pub returns-in-err-total : goal.returns-in-err-total
-returns-in-err-total c =
+pub returns-in_err-total : goal.returns-in_err-total
+returns-in_err-total c =
     let step = length-step c.args.pieces.now c.loop-piece.piece-index c.loop-piece-test.true in
     let line = length-line c.args.pieces.now in
-    let above = representable-above (length (line_of c.args.pieces.now)) (omega (arith, c.in-err-total.ensures)) in
-    c.from-residual.ensures ∙ sym above
+    let above = representable-above (length (line_of c.args.pieces.now)) (omega (arith, c.in_err-total.ensures)) in
+    c.from_residual.ensures ∙ sym above
 
 pub loop-piece-preserved : goal.loop-piece-preserved
 loop-piece-preserved c =
     let step = length-step c.args.pieces.now c.loop-piece.piece-index c.loop-piece-test.true in
-    let sum = c.in-ok-total.ensures in
+    let sum = c.in_ok-total.ensures in
     (omega arith, omega arith)
 
 pub returns : goal.returns

@@ -5,8 +5,8 @@ use Rattle.basis.proofs.Pieces.{piece, length-step, length-line, line_step, line
 use Rattle.basis.proofs.Laying.{laid_then, laid_one}
 use Rattle.basis.proofs.line.put_line.Goals as goal
 
-pub put-piece-at-requires : goal.put-piece-at-requires
-put-piece-at-requires c =
+pub put_piece-at-requires : goal.put_piece-at-requires
+put_piece-at-requires c =
     let step = length-step c.args.pieces.now c.loop-piece.piece-index c.loop-piece-test.true in
     omega (arith, length-line c.args.pieces.now)
 
@@ -17,11 +17,11 @@ loop-piece-preserved c =
     let step = length-step ps i c.loop-piece-test.true in
     let line = length-line ps in
     let long = c.loop-piece.auto.out in
-    let kept : length c.put-piece-at.new.out ≡ length c.loop-piece.out = omega arith in (
+    let kept : length c.put_piece-at.new.out ≡ length c.loop-piece.out = omega arith in (
       omega arith,
       omega arith,
-      ap (laid c.put-piece-at.result (line_of (drop (i + 1) ps))) c.put-piece-at.ensures.buffer
-          ∙ (laid_then c.loop-piece.at c.put-piece-at.result (spelling (piece ps i)) (line_of (drop (i + 1) ps)) c.loop-piece.out c.put-piece-at.ensures.place (omega arith)
+      ap (laid c.put_piece-at.result (line_of (drop (i + 1) ps))) c.put_piece-at.ensures.buffer
+          ∙ (laid_then c.loop-piece.at c.put_piece-at.result (spelling (piece ps i)) (line_of (drop (i + 1) ps)) c.loop-piece.out c.put_piece-at.ensures.place (omega arith)
           ∙ (ap (λ t. laid c.loop-piece.at t c.loop-piece.out) (sym (line_step ps i c.loop-piece-test.true)) ∙ c.loop-piece.invariant.2)),
     )
 

@@ -5,14 +5,14 @@ use Rattle.basis.proofs.Figures.{count-one, count-step}
 use Rattle.basis.proofs.Laying.{laid-last, laid_one}
 use Rattle.basis.proofs.line.put_number.Goals as goal
 
-pub overflow-sub-place : goal.overflow-sub-place
-overflow-sub-place c = omega (arith, decimal_nonempty c.args.n (omega arith))
+pub overflow_sub-place : goal.overflow_sub-place
+overflow_sub-place c = omega (arith, decimal_nonempty c.args.n (omega arith))
 
 pub loop-rest-init : goal.loop-rest-init
 loop-rest-init c = let h = decimal_nonempty c.args.n (omega arith) in (omega arith, omega arith, omega arith, refl)
 
-pub overflow-sub-place-in-loop-rest : goal.overflow-sub-place-in-loop-rest
-overflow-sub-place-in-loop-rest c =
+pub overflow_sub-place-in-loop-rest : goal.overflow_sub-place-in-loop-rest
+overflow_sub-place-in-loop-rest c =
     let some = decimal_nonempty (c.loop-rest.rest / 10) (omega arith) in
     omega (arith, count-step c.loop-rest.rest (omega arith) (omega arith))
 
@@ -40,7 +40,7 @@ returns c =
     let single : decimal rest ≡ y ∷ [] = decimal_digit rest (omega arith) ∙ ap (λ d. d ∷ []) (sym c.figure-2.ensures) in
     let here : c.args.at ≡ c.loop-rest.place = omega (arith, count-one rest (omega arith)) in
     record {
-      place = ap (λ k. c.args.at + k) c.figure-count.ensures;
+      place = ap (λ k. c.args.at + k) c.figure_count.ensures;
       buffer =
           laid_one c.loop-rest.out c.loop-rest.place y (omega arith)
           ∙ (ap (λ a. laid a (y ∷ []) c.loop-rest.out) (sym here)

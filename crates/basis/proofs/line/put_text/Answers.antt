@@ -6,5 +6,5 @@ pub returns : goal.returns
 returns c =
     record {
       place = refl;
-      buffer = rw c.copy-from-slice.ensures.after (put_mid-laid c.args.at _ c.args.out.now c.args.text.now (omega arith));
+      buffer = rw c.copy_from_slice.ensures.after (put_mid-laid c.args.at _ c.args.out.now c.args.text.now (omega arith));
     }

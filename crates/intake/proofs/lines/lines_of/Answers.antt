@@ -9,11 +9,11 @@ pub loop-start-preserved : goal.loop-start-preserved
 loop-start-preserved c =
     let xs = c.args.text.now in
     let s = c.loop-start.start in
-    let e = c.line-end.result in
-    let h = c.line-end.ensures in
+    let e = c.line_end.result in
+    let h = c.line_end.ensures in
     let items = vec_items c.loop-start.lines in
     let rest = lines_of (drop (s + e + 1) xs) in
-    let grown = pushed (_ ∷ []) refl c.in-ok-push.was c.push.ensures.items in
+    let grown = pushed (_ ∷ []) refl c.in_ok-push.was c.push.ensures.items in
     ap (λ t. map (λ x. x.now) t ++ rest) grown
     ∙ (ap (λ t. t ++ rest) (map-append (λ x. x.now) items (_ ∷ []))
     ∙ (append_assoc (map (λ x. x.now) items) (_ ∷ []) rest

@@ -16,7 +16,7 @@ loop-operator-preserved c =
     let i = c.loop-operator.invariant in
     let v = c.in-Some.ensures in
     let ts = tags (held c.loop-operator.stack.count c.loop-operator.stack.slots.now) in
-    let rest = tags (held c.pop-unary.new.stack.count c.pop-unary.new.stack.slots.now) in
+    let rest = tags (held c.pop_unary.new.stack.count c.pop_unary.new.stack.slots.now) in
     let ps = vec_items c.loop-operator.parts.list in
     let more = vec_items c.push-in-Some.new.self.list in
     let o = one-ends ts rest c.in-Some.operator ps more v.value v.rest c.push-in-Some.ensures in
@@ -25,7 +25,7 @@ loop-operator-preserved c =
 pub returns : goal.returns
 returns c =
     let i = c.loop-operator.invariant in
-    let v = c.in-default.ensures in
+    let v = c.in_default.ensures in
     let ts = tags (held c.loop-operator.stack.count c.loop-operator.stack.slots.now) in
     let n = none-ends ts v.value in
     let entry = unaries (tags (held c.args.stack.now.count c.args.stack.now.slots.now)) in

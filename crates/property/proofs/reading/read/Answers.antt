@@ -4,13 +4,13 @@ use Rattle.property.specs.Reading.{reading}
 use Rattle.property.proofs.Whole.{reads, reads_only, answered, tree-back, few-parts}
 use Rattle.property.proofs.reading.read.Goals as goal
 
-pub returns-then-is-err : goal.returns-then-is-err
-returns-then-is-err c =
+pub returns-then-is_err : goal.returns-then-is_err
+returns-then-is_err c =
     let list = c.args.names.now in
     let marks = c.args.marks in
     let text = c.args.text.now in
-    let a = answered _ _ (reading list marks text) c.read-checked-answer.ensures in
-    let p = c.clear.ensures ∙ sym (a.1.1 (sym c.if-is-err.ensures.value)) in
+    let a = answered _ _ (reading list marks text) c.read_checked-answer.ensures in
+    let p = c.clear.ensures ∙ sym (a.1.1 (sym c.if-is_err.ensures.value)) in
     record {
       value = a.0;
       parts = p;
@@ -20,13 +20,13 @@ returns-then-is-err c =
       only = reads_only list marks text;
     }
 
-pub returns-else-is-err : goal.returns-else-is-err
-returns-else-is-err c =
+pub returns-else-is_err : goal.returns-else-is_err
+returns-else-is_err c =
     let list = c.args.names.now in
     let marks = c.args.marks in
     let text = c.args.text.now in
-    let a = answered _ _ (reading list marks text) c.read-checked-answer.ensures in
-    let p = a.1.0 (sym c.if-is-err.ensures.value) in
+    let a = answered _ _ (reading list marks text) c.read_checked-answer.ensures in
+    let p = a.1.0 (sym c.if-is_err.ensures.value) in
     record {
       value = a.0;
       parts = p;

@@ -12,12 +12,12 @@ returns-in-None c =
     let line : told n None ≡ refusal_line e = ap (λ k. told k None) c.number.ensures ∙ ap (told (number_of e)) c.in-None.ensures in
     record {
       answer =
-          c.put-line.ensures.answer
+          c.put_line.ensures.answer
           ∙ (ap (λ t. written t (length c.args.out.now)) (told-plain n)
           ∙ (written-answered (told n None) (length c.args.out.now) (told-short n None (omega arith) (omega arith))
           ∙ ap (λ t. answered t (length c.args.out.now)) line));
-      bound = c.put-line.ensures.bound;
-      buffer = c.put-line.ensures.buffer ∙ ap (λ t. overlaid t c.args.out.now) (told-plain n ∙ line);
+      bound = c.put_line.ensures.bound;
+      buffer = c.put_line.ensures.buffer ∙ ap (λ t. overlaid t c.args.out.now) (told-plain n ∙ line);
     }
 
 pub returns-in-Some : goal.returns-in-Some
@@ -28,10 +28,10 @@ returns-in-Some c =
     let line : told n (Some v) ≡ refusal_line e = ap (λ k. told k (Some v)) c.number.ensures ∙ ap (told (number_of e)) c.in-Some.ensures in
     record {
       answer =
-          c.put-line-in-Some.ensures.answer
+          c.put_line-in-Some.ensures.answer
           ∙ (ap (λ t. written t (length c.args.out.now)) (told_at n v)
           ∙ (written-answered (told n (Some v)) (length c.args.out.now) (told-short n (Some v) (omega arith) (at-short v (omega arith)))
           ∙ ap (λ t. answered t (length c.args.out.now)) line));
-      bound = c.put-line-in-Some.ensures.bound;
-      buffer = c.put-line-in-Some.ensures.buffer ∙ ap (λ t. overlaid t c.args.out.now) (told_at n v ∙ line);
+      bound = c.put_line-in-Some.ensures.bound;
+      buffer = c.put_line-in-Some.ensures.buffer ∙ ap (λ t. overlaid t c.args.out.now) (told_at n v ∙ line);
     }

@@ -14,7 +14,7 @@ returns c a =
     let marks : map (bit c.number.result) (range_with_len 0 a) ≡ map (bit (marks_at f at)) (range_with_len 0 a) =
     ap (λ n. map (bit n) (range_with_len 0 a)) c.number.ensures
     in
-    let ways : map (λ p. get_or c.read-ways.result p 0) (range_with_len 0 (degree_at f at)) ≡ map (way_of f at) (range_with_len 0 (degree_at f at)) =
-    map_same 0 (λ p. get_or c.read-ways.result p 0) (way_of f at) (degree_at f at) c.read-ways.ensures
+    let ways : map (λ p. get_or c.read_ways.result p 0) (range_with_len 0 (degree_at f at)) ≡ map (way_of f at) (range_with_len 0 (degree_at f at)) =
+    map_same 0 (λ p. get_or c.read_ways.result p 0) (way_of f at) (degree_at f at) c.read_ways.ensures
     in
-    ap (λ s. make s (map (λ p. get_or c.read-ways.result p 0) (range_with_len 0 (degree_at f at)))) marks ∙ ap (make (map (bit (marks_at f at)) (range_with_len 0 a))) ways
+    ap (λ s. make s (map (λ p. get_or c.read_ways.result p 0) (range_with_len 0 (degree_at f at)))) marks ∙ ap (make (map (bit (marks_at f at)) (range_with_len 0 a))) ways

@@ -4,12 +4,12 @@ use Rattle.ctl.specs.Chart.{row, size}
 use Rattle.chart.proofs.Pairs.{pair_row_lem, pair-past, sides-below}
 use Rattle.chart.proofs.pair.PairChart.stands.Goals as goal
 
-pub returns-in-default : goal.returns-in-default
-returns-in-default g c =
+pub returns-in_default : goal.returns-in_default
+returns-in_default g c =
     let μ = g.L.Chart.meaning c.args.self.now.left in
     let ν = g.R.Chart.meaning c.args.self.now.right in
     let some = (g.R.Chart.lawful c.args.self.now.right).0.0 in
-    ap (λ r. get_or r.standing c.args.mark false) (sym (pair-past μ ν c.args.mode c.if-not-fit.ensures some c.in-default.ensures))
+    ap (λ r. get_or r.standing c.args.mark false) (sym (pair-past μ ν c.args.mode c.if-not-fit.ensures some c.in_default.ensures))
 
 pub returns-then-mark-marks : goal.returns-then-mark-marks
 returns-then-mark-marks g c =

@@ -2,8 +2,8 @@ use Rattle.std.proofs.Common.{vec_items, arith}
 use Rattle.chart.proofs.Records.{records-size}
 use Rattle.chart.proofs.filed.answers.FiledChartChart.modes.Goals as goal
 
-pub overflow-cast-result : goal.overflow-cast-result
-overflow-cast-result c =
+pub overflow_cast-result : goal.overflow_cast-result
+overflow_cast-result c =
     let s = c.args.self.now in
     let long = records-size s.marks s.width s.start (vec_items s.records) in
     let most = s.bounds.0 in

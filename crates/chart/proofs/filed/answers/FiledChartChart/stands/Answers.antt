@@ -3,10 +3,10 @@ use Rattle.std.proofs.lemmas.Bool.{le-ltb}
 use Rattle.chart.proofs.Records.{record-row, record-past, mark_of, mark-past}
 use Rattle.chart.proofs.filed.answers.FiledChartChart.stands.Goals as goal
 
-pub returns-in-default : goal.returns-in-default
-returns-in-default c =
+pub returns-in_default : goal.returns-in_default
+returns-in_default c =
     let s = c.args.self.now in
-    ap (λ r. get_or r.standing c.args.mark false) (sym (record-past s.marks s.width s.start (vec_items s.records) c.args.mode c.in-default.ensures))
+    ap (λ r. get_or r.standing c.args.mark false) (sym (record-past s.marks s.width s.start (vec_items s.records) c.args.mode c.in_default.ensures))
 
 pub returns-then-mark-self : goal.returns-then-mark-self
 returns-then-mark-self c =

@@ -6,10 +6,10 @@ use Rattle.chart.specs.Records.{meaning_of}
 use Rattle.chart.proofs.Records.{records-size, record-row, record-past, degree-of, way_of, way-past}
 use Rattle.chart.proofs.filed.answers.FiledChartChart.way.Goals as goal
 
-pub returns-in-default : goal.returns-in-default
-returns-in-default c =
+pub returns-in_default : goal.returns-in_default
+returns-in_default c =
     let s = c.args.self.now in
-    ap (λ r. slice_get r.ways c.args.place) (sym (record-past s.marks s.width s.start (vec_items s.records) c.args.mode c.in-default.ensures))
+    ap (λ r. slice_get r.ways c.args.place) (sym (record-past s.marks s.width s.start (vec_items s.records) c.args.mode c.in_default.ensures))
 
 pub bounds-record-place : goal.bounds-record-place
 bounds-record-place c =
