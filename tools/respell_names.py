@@ -67,7 +67,7 @@ def ghost_spans(text):
     """The parts of a .rt file that are antt: `ghost use` lines, and the braces of clauses and ghost items."""
     for m in re.finditer(r"^\s*ghost use .*$", text, re.M):
         yield m.start(), m.end()
-    for m in re.finditer(r"^\s*(?:pub )?(?:ghost \w+:|requires\*?(?: \w+)?|ensures\*?(?: \w+)?) ?\{", text, re.M):
+    for m in re.finditer(r"^\s*(?:pub )?(?:ghost \w+ ?[:=]|requires\*?(?: \w+)?|ensures\*?(?: \w+)?) ?\{", text, re.M):
         at, depth = m.end(), 1
         while depth:
             depth += {"{": 1, "}": -1}.get(text[at], 0)

@@ -31,7 +31,7 @@ impl<'a> Criterion for Reading<'a> {
 }
 
 impl<'a> Criterion for Numbered<'a> {
-    ghost test = { numberedBy };
+    ghost test = { numbered_by };
 
     fn admits(&self, mode: u16) -> bool {
         number_of(self.numbers, mode) == self.number
@@ -39,7 +39,7 @@ impl<'a> Criterion for Numbered<'a> {
 }
 
 impl<'a> Criterion for Reached<'a> {
-    ghost test = { reachedBy };
+    ghost test = { reached_by };
 
     fn admits(&self, mode: u16) -> bool {
         number_of(self.numbers, mode) > 0

@@ -30,7 +30,7 @@ impl FiledChart {
 }
 
 impl Chart for FiledChart {
-    ghost meaning = { λ c. meaningOf c.marks c.width c.start c.records.items };
+    ghost meaning = { λ c. meaning_of c.marks c.width c.start c.records.items };
 
     ghost lawful = { λ c. lawful-from _ c.bounds c.rows c.inside };
 

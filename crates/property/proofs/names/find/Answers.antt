@@ -13,7 +13,7 @@ loop-name-init c =
 
 pub returns-then-eq : goal.returns-then-eq
 returns-then-eq c =
-    seek-here _ _ _ _ c.in-Some.ensures.value (sym c.if-eq.true ∙ decided _ _ _ (slice_eq-Decides Decides-eqb _ _ _ c.eq.ensures))
+    seek-here _ _ _ _ c.in-Some.ensures.value (sym c.if-eq.true ∙ decided c.in-Some.name.now c.args.letters.now _ (slice_eq-Decides Decides-eqb _ _ _ c.eq.ensures))
     ∙ c.loop-name.invariant.0
 
 pub loop-name-preserved : goal.loop-name-preserved
@@ -21,6 +21,6 @@ loop-name-preserved c =
     let v = c.in-Some.ensures.value in
     let r = c.in-Some.ensures.rest in
     let f = one_fewer _ _ _ v r in (
-      seek-on _ _ _ _ _ v (sym c.if-eq.false ∙ decided _ _ _ (slice_eq-Decides Decides-eqb _ _ _ c.eq.ensures)) r ∙ c.loop-name.invariant.0,
+      seek-on _ _ _ _ _ v (sym c.if-eq.false ∙ decided c.in-Some.name.now c.args.letters.now _ (slice_eq-Decides Decides-eqb _ _ _ c.eq.ensures)) r ∙ c.loop-name.invariant.0,
       omega arith,
     )

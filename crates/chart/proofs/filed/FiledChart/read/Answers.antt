@@ -10,13 +10,11 @@ invariant_of-self c =
     let h = c.args.header.now in
     let e = faultless f c.requires.0 in
     let l = limits_of (header_of f) e.limits in
-    let same = read-chart f h (vec_items c.read_records.new.records) c.requires.1 c.read_records.ensures.rows in (
-      subst Bounds (sym same) (file-bounds f e),
-      (
-        subst Rows (sym same) (file-rows f e),
-        (
-          subst Inside (sym same) (file-inside f e),
-          (omega (arith, ap (λ k. k.width) c.requires.1), (c.read_records.ensures.room, tt)),
-        ),
-      ),
-    )
+    let same = read-chart f h (vec_items c.read_records.new.records) c.requires.1 c.read_records.ensures.rows in
+    record {
+      bounds = subst Bounds (sym same) (file-bounds f e);
+      rows = subst Rows (sym same) (file-rows f e);
+      inside = subst Inside (sym same) (file-inside f e);
+      narrow = omega (arith, ap (λ k. k.width) c.requires.1);
+      room = c.read_records.ensures.room;
+    }

@@ -6,8 +6,8 @@ use Rattle.report.proofs.Short.{heading-short}
 use Rattle.report.proofs.Spelled.{spelled}
 use Rattle.report.proofs.draft.Draft.begin.Goals as goal
 
-pub invariant-of-self : goal.invariant-of-self
-invariant-of-self c =
+pub invariant_of-self : goal.invariant_of-self
+invariant_of-self c =
     let line = heading_line c.args.modes c.args.marks c.args.start in
     let text : flat_map spelling (vec_items c.append.new.pieces) ≡ line =
     spelled (vec_items c.clear.new.self) c.heading.result (vec_items c.append.new.pieces) line c.append.ensures.items c.heading.ensures.spelled

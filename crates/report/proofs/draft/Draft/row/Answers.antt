@@ -7,8 +7,8 @@ use Rattle.report.proofs.Short.{entry-short}
 use Rattle.report.proofs.Spelled.{spelled}
 use Rattle.report.proofs.draft.Draft.row.Goals as goal
 
-pub invariant-of-self : goal.invariant-of-self
-invariant-of-self c =
+pub invariant_of-self : goal.invariant_of-self
+invariant_of-self c =
     let before = vec_items c.args.self.now.pieces in
     let line = entry_line c.args.self.now.rows c.args.line c.args.answer c.args.rounds in
     let text = spelled before c.entry.result (vec_items c.append.new.pieces) line c.append.ensures.items c.entry.ensures.spelled in

@@ -8,8 +8,8 @@ use Rattle.report.proofs.Short.{total-short}
 use Rattle.report.proofs.Spelled.{line-spelled}
 use Rattle.report.proofs.draft.Draft.write.Goals as goal
 
-pub invariant-of-self : goal.invariant-of-self
-invariant-of-self c =
+pub invariant_of-self : goal.invariant_of-self
+invariant_of-self c =
     let before = vec_items c.args.self.now.pieces in
     let n = c.len-before.result in
     let long : length before ≡ n = omega (arith, c.args.self.now.pieces.ok.0) in
@@ -38,8 +38,8 @@ returns c =
     let last : length (total_line rounds most) ≤ 100 = total-short rounds most (omega arith) (omega arith) in
     let short : length (text ++ total_line rounds most) < 2 ^ 64 = omega arith in
     record {
-      answer = c.put-line-answer.ensures.answer ∙ (ap (λ t. written t room) line ∙ written-answered (text ++ total_line rounds most) room short);
-      buffer = c.put-line-answer.ensures.buffer ∙ ap (λ t. overlaid t c.args.out.now) line;
+      answer = c.put_line-answer.ensures.answer ∙ (ap (λ t. written t room) line ∙ written-answered (text ++ total_line rounds most) room short);
+      buffer = c.put_line-answer.ensures.buffer ∙ ap (λ t. overlaid t c.args.out.now) line;
       text = ap (flat_map spelling) stays;
       count = refl;
       bound = omega arith;

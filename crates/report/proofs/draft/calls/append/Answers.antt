@@ -8,7 +8,7 @@ loop-piece-preserved c =
     let more = c.args.more.now in
     let i = c.loop-piece.piece-index in
     let before = vec_items c.args.pieces.now in (
-      c.push-reserved.ensures.items
+      c.push_reserved.ensures.items
           ∙ (ap (λ xs. xs ++ (piece more i ∷ [])) c.loop-piece.invariant.0
           ∙ (append_assoc before (take i more) (piece more i ∷ []) ∙ ap (λ xs. before ++ xs) (sym (take_more more i none c.loop-piece-test.true)))),
       (omega arith, omega arith),
