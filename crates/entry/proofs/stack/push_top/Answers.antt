@@ -5,5 +5,5 @@ use Rattle.entry.proofs.stack.push_top.Goals as goal
 pub returns : goal.returns
 unfolding stacked
 returns g c =
-    let e = c.push-reserved.ensures in
+    let e = c.push_reserved.ensures in
     record { holds = pushed _ _ c.args.element e.items; len = e.len; capacity = e.capacity }

@@ -14,4 +14,4 @@ invariant_of-self c =
     ∙ ap (λ xs. flat_map spelling xs ++ line) c.clear.ensures.items
     in
     let short : length line ≤ 100 = heading-short c.args.modes c.args.marks c.args.start (omega arith) (omega arith) (omega arith) in
-    (omega arith, (omega arith, (omega arith, (omega (arith, ap length text), tt))))
+    record { room = omega arith; few = omega arith; within = omega arith; short = omega (arith, ap length text) }

@@ -14,7 +14,7 @@ invariant_of-self c =
     let text = spelled before c.entry.result (vec_items c.append.new.pieces) line c.append.ensures.items c.entry.ensures.spelled in
     let long = length-append (flat_map spelling before) line in
     let short : length line ≤ 100 = entry-short c.args.self.now.rows c.args.line c.args.answer c.args.rounds (omega arith) (omega arith) (omega arith) in
-    (omega arith, (omega arith, (omega arith, (omega (arith, ap length text), tt))))
+    record { room = omega arith; few = omega arith; within = omega arith; short = omega (arith, ap length text) }
 
 pub returns-then-self-lt32 : goal.returns-then-self-lt32
 returns-then-self-lt32 c =

@@ -16,7 +16,7 @@ invariant_of-self c =
     let stays : vec_items c.truncate.new.self ≡ before =
     c.truncate.ensures.items ∙ (ap (take n) c.append.ensures.items ∙ take_at before c.total.result n long)
     in
-    (omega arith, (omega arith, (omega arith, (omega (arith, ap (λ xs. length (flat_map spelling xs)) stays), tt))))
+    record { room = omega arith; few = omega arith; within = omega arith; short = omega (arith, ap (λ xs. length (flat_map spelling xs)) stays) }
 
 pub returns : goal.returns
 returns c =
