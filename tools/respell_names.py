@@ -84,7 +84,12 @@ def main():
         if b in seen and seen[b] != a:
             sys.exit(f"{a} and {seen[b]} fall together as {b}")
         seen[b] = a
-    swap = lambda text: WORD.sub(lambda m: turned.get(m.group(), m.group()), text)
+
+    def swap(text):
+        # a function of src/ has a folder of its name, which stays
+        kept = lambda m: m.group() in LEMMAS and text[m.start() - 1 : m.start()] == "."
+        return WORD.sub(lambda m: m.group() if kept(m) else turned.get(m.group(), m.group()), text)
+
     for path in files(".antt"):
         text = read(path)
         done = swap(text)

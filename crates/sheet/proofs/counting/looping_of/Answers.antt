@@ -6,15 +6,15 @@ use Rattle.rounds.specs.Held.{progress_of}
 use Rattle.rounds.specs.declared.line.Line.{Line}
 use Rattle.sheet.proofs.Counted.{looping-more, one_at_most}
 use Rattle.sheet.proofs.counting.looping_of.Goals as goal
-use Rattle.sheet.proofs.counting.looping_of.Goals.{then-is-looping, else-is-looping}
+use Rattle.sheet.proofs.counting.looping_of.Goals.{then-is_looping, else-is_looping}
 
 pub loop-line-preserved : goal.loop-line-preserved
 loop-line-preserved c =
     let more = looping-more c.args.lines.now c.loop-line.line-index c.line-item.result c.loop-line-test.true c.line-item.is in
-    let stepped : c.if-is-looping.count ≡ c.loop-line.count + cond (looping c.line-item.result.rule) 1 0 =
-    elim c.if-is-looping.branch [
-      | then-is-looping w ↦ rw (sym c.is-looping.ensures ∙ w.if-is-looping.true) w.count-is
-      | else-is-looping w ↦ rw (sym c.is-looping.ensures ∙ w.if-is-looping.false) (omega (arith, w.count-is))
+    let stepped : c.if-is_looping.count ≡ c.loop-line.count + cond (looping c.line-item.result.rule) 1 0 =
+    elim c.if-is_looping.branch [
+      | then-is_looping w ↦ rw (sym c.is_looping.ensures ∙ w.if-is_looping.true) w.count-is
+      | else-is_looping w ↦ rw (sym c.is_looping.ensures ∙ w.if-is_looping.false) (omega (arith, w.count-is))
     ] in
     let most = one_at_most (looping c.line-item.result.rule) in
     (omega arith, omega arith)

@@ -13,9 +13,9 @@ loop-entry-preserved c =
     let h = c.args.heading in
     let i = c.loop-entry.entry-index in
     let below : i < 32 = omega arith in
-    let e = c.report-line-line.ensures in (
+    let e = c.report_line-line.ensures in (
       row_more p h.start h.modes h.marks h.start c.args.entries.now i (get_or c.args.entries.now i 0) (drafted c.loop-entry.draft) (drafted c.row.new.self) (standing c.loop-entry.draft)
-          c.report-line-line.result.answer c.report-line-line.result.rounds c.loop-entry-test.true c.requires (get_or_default c.args.entries.now i 0 (get_or c.args.entries.now i 0) c.loop-entry-test.true) c.loop-entry.invariant.1 c.loop-entry.invariant.0 e.answer e.rounds c.row.ensures.text,
+          c.report_line-line.result.answer c.report_line-line.result.rounds c.loop-entry-test.true c.requires (get_or_default c.args.entries.now i 0 (get_or c.args.entries.now i 0) c.loop-entry-test.true) c.loop-entry.invariant.1 c.loop-entry.invariant.0 e.answer e.rounds c.row.ensures.text,
       count-more i (standing c.row.new.self) below (c.row.ensures.count ∙ ap counted c.loop-entry.invariant.1),
     )
 

@@ -4,12 +4,12 @@ use Rattle.witness.specs.Shapes.{plan_of}
 use Rattle.witness.proofs.Shows.{shows-answer, shows-buffer, shows-plan, shows_nothing}
 use Rattle.witness.proofs.showing.show.Goals as goal
 
-pub returns-in-default : goal.returns-in-default
-returns-in-default g c =
+pub returns-in_default : goal.returns-in_default
+returns-in_default g c =
     let μ = g.C.Chart.meaning c.args.chart.now in
     record {
-      answer = shows-answer μ c.args.lines.now c.args.line c.args.mode c.rule-at.result c.members.result.now c.is-member-answer.result c.rule-at.ensures c.members.ensures c.is-member-answer.ensures none c.in-default.ensures (length c.args.path.now);
-      buffer = shows_nothing μ c.args.lines.now c.args.line c.args.mode c.rule-at.result c.members.result.now c.is-member-answer.result c.rule-at.ensures c.members.ensures c.is-member-answer.ensures c.args.path.now c.in-default.ensures;
+      answer = shows-answer μ c.args.lines.now c.args.line c.args.mode c.rule_at.result c.members.result.now c.is_member-answer.result c.rule_at.ensures c.members.ensures c.is_member-answer.ensures none c.in_default.ensures (length c.args.path.now);
+      buffer = shows_nothing μ c.args.lines.now c.args.line c.args.mode c.rule_at.result c.members.result.now c.is_member-answer.result c.rule_at.ensures c.members.ensures c.is_member-answer.ensures c.args.path.now c.in_default.ensures;
     }
 
 pub returns : goal.returns
@@ -18,9 +18,9 @@ returns g c =
     let s = c.in-Some.ensures in
     record {
       answer =
-          c.lay-out.ensures.answer
-          ∙ shows-plan μ c.args.lines.now c.args.line c.args.mode c.rule-at.result c.members.result.now c.is-member-answer.result c.rule-at.ensures c.members.ensures c.is-member-answer.ensures c.in-Some.plan (length c.args.path.now) s;
+          c.lay_out.ensures.answer
+          ∙ shows-plan μ c.args.lines.now c.args.line c.args.mode c.rule_at.result c.members.result.now c.is_member-answer.result c.rule_at.ensures c.members.ensures c.is_member-answer.ensures c.in-Some.plan (length c.args.path.now) s;
       buffer =
-          c.lay-out.ensures.buffer
-          ∙ shows-buffer μ c.args.lines.now c.args.line c.args.mode c.rule-at.result c.members.result.now c.is-member-answer.result c.rule-at.ensures c.members.ensures c.is-member-answer.ensures (plan_of c.in-Some.plan) s c.args.path.now;
+          c.lay_out.ensures.buffer
+          ∙ shows-buffer μ c.args.lines.now c.args.line c.args.mode c.rule_at.result c.members.result.now c.is_member-answer.result c.rule_at.ensures c.members.ensures c.is_member-answer.ensures (plan_of c.in-Some.plan) s c.args.path.now;
     }

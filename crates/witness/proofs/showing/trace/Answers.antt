@@ -15,7 +15,7 @@ pub descend-requires : goal.descend-requires
 descend-requires g c =
     let μ = g.C.Chart.meaning c.args.chart.now in
     let n = numbers-below μ (read_by c.read-passing.result) (read_by c.read-ending.result) (size μ) c.args.asked.mode in
-    let e = ap (λ (ns : List ℕ). get_or ns c.args.asked.mode 0) (c.deref.ensures.value ∙ c.find-numbers.ensures.items) in
+    let e = ap (λ (ns : List ℕ). get_or ns c.args.asked.mode 0) (c.deref.ensures.value ∙ c.find_numbers.ensures.items) in
     let l = g.C.Chart.lawful c.args.chart.now in
     omega (arith, l.0.1)
 
@@ -27,8 +27,8 @@ returns-in-Step g c =
     record {
       path =
           ap (λ (xs : List ℕ). record { modes = xs; returns = None })
-          (step-traced μ (read_by c.read.result) (reads a.answer s) a.mode c.first-way.result (path_on c.args.path.now) (path_on c.add.new.path) (path_on c.add-in-Step.new.path)
-          c.requires.empty c.add.ensures.holds c.add-in-Step.ensures.holds c.first-way.ensures (read_is c.read.result a.answer s c.read.ensures.set c.read.ensures.answer))
+          (step-traced μ (read_by c.read.result) (reads a.answer s) a.mode c.first_way.result (path_on c.args.path.now) (path_on c.add.new.path) (path_on c.add-in-Step.new.path)
+          c.requires.empty c.add.ensures.holds c.add-in-Step.ensures.holds c.first_way.ensures (read_is c.read.result a.answer s c.read.ensures.set c.read.ensures.answer))
           ∙ ap (λ (q : Plan). shown_for μ a (plan_of q)) (sym c.in-Step.is);
       lender = c.add-in-Step.ensures.lender ∙ c.add.ensures.lender;
     }

@@ -7,7 +7,7 @@ use Rattle.witness.proofs.walks.descend.Goals as goal
 pub loop-number-preserved : goal.loop-number-preserved
 loop-number-preserved g c =
     let l = c.loop-number in (
-      descent-more (g.C.Chart.meaning c.args.chart.now) c.args.numbers.now (path_on l.path) (path_on c.add.new.path) l.number l.at c.first-way-at.result (omega arith) c.add.ensures.holds c.first-way-at.ensures
+      descent-more (g.C.Chart.meaning c.args.chart.now) c.args.numbers.now (path_on l.path) (path_on c.add.new.path) l.number l.at c.first_way-at.result (omega arith) c.add.ensures.holds c.first_way-at.ensures
           ∙ l.invariant.0,
       (omega arith, c.add.ensures.lender ∙ l.invariant.1.1),
     )

@@ -40,8 +40,8 @@ returns-in-Some g c =
       path =
           ending (path_on l.path ++ l.at ∷ []) (path_on c.add.new.path) (Some c.in-Some.place) _ c.add.ensures.holds
           (walking-returns (g.C.Chart.meaning c.args.chart.now) (both_read c.args.left c.args.right) (read_by c.args.inside) c.args.mode l.at l.step (path_on l.path) (vec_items l.places)
-          l.invariant.0 (omega arith) (g.C.Chart.lawful c.args.chart.now) (sym c.closes.ensures ∙ c.if-closes.false) c.first-way-next.result c.deref.result.now
-          c.first-way-next.ensures (c.deref.ensures.value ∙ c.note.ensures.items) c.in-Some.place (sym c.in-Some.is ∙ c.passed.ensures));
+          l.invariant.0 (omega arith) (g.C.Chart.lawful c.args.chart.now) (sym c.closes.ensures ∙ c.if-closes.false) c.first_way-next.result c.deref.result.now
+          c.first_way-next.ensures (c.deref.ensures.value ∙ c.note.ensures.items) c.in-Some.place (sym c.in-Some.is ∙ c.passed.ensures));
       lender = c.add.ensures.lender ∙ l.invariant.1.1.1.1;
       table = omega arith;
     }
@@ -52,8 +52,8 @@ loop-step-preserved g c =
     let l = c.loop-step in
     let w =
     walking-next μ (both_read c.args.left c.args.right) (read_by c.args.inside) c.args.mode l.at l.step (path_on l.path) (vec_items l.places)
-    l.invariant.0 (omega arith) (g.C.Chart.lawful c.args.chart.now) (sym c.closes.ensures ∙ c.if-closes.false) c.first-way-next.result c.deref.result.now
-    c.first-way-next.ensures (c.deref.ensures.value ∙ c.note.ensures.items) (sym c.in-default.is ∙ c.passed.ensures) in (
+    l.invariant.0 (omega arith) (g.C.Chart.lawful c.args.chart.now) (sym c.closes.ensures ∙ c.if-closes.false) c.first_way-next.result c.deref.result.now
+    c.first_way-next.ensures (c.deref.ensures.value ∙ c.note.ensures.items) (sym c.in_default.is ∙ c.passed.ensures) in (
       moved μ (both_read c.args.left c.args.right) (read_by c.args.inside) _ _ _ _ _ _ _ (sym c.add.ensures.holds) c.deref.ensures.value w,
       (omega arith, (omega arith, (omega arith, c.add.ensures.lender ∙ l.invariant.1.1.1.1))),
     )

@@ -1,6 +1,6 @@
 use Rattle.ctl.specs.Chart.{ways_of}
 use Rattle.witness.proofs.Firsts.{first-default}
-use Rattle.witness.proofs.ways.first_way_lem.Goals as goal
+use Rattle.witness.proofs.ways.first_way.Goals as goal
 
 pub returns : goal.returns
 returns g c =

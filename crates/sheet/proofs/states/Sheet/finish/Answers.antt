@@ -8,10 +8,10 @@ returns g c =
     let w = c.args.self in
     let μ = g.C.Chart.meaning w.chart in
     let after : state_of c.advance.new.self ≡ finished μ (state_of w.work) =
-    c.advance.ensures.after ∙ ap (λ (k : ℕ). advanced μ k (state_of w.work)) c.most-rounds-budget.ensures in
+    c.advance.ensures.after ∙ ap (λ (k : ℕ). advanced μ k (state_of w.work)) c.most_rounds-budget.ensures in
     record {
       after = after;
       chart = refl;
-      sound = advanced-sound μ c.most-rounds-budget.result (state_of w.work) (state_of c.advance.new.self) c.advance.ensures.after;
+      sound = advanced-sound μ c.most_rounds-budget.result (state_of w.work) (state_of c.advance.new.self) c.advance.ensures.after;
       settled = finished-told μ (state_of w.work) (state_of c.advance.new.self) after;
     }

@@ -3,8 +3,8 @@ use Rattle.ctl.specs.Lines.{Distinct, Ordered}
 use Rattle.ctl.specs.declared.rule.Rule.{Rule}
 use Rattle.sheet.proofs.work.Work.advance.Goals as goal
 
-pub invariant-of-self : goal.invariant-of-self
-invariant-of-self g c =
+pub invariant_of-self : goal.invariant_of-self
+invariant_of-self g c =
     let w = c.args.self.now in (
       c.advance.ensures.len ∙ w.rooms,
       (

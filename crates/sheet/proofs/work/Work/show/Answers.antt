@@ -30,12 +30,12 @@ returns-then-mode-modes g c =
     let e = show-no-mode (g.C.Chart.meaning c.args.chart.now) (state_of w) c.args.line c.args.mode (length buffer) (rw (lines-used w) c.if-line-self.false) (omega arith) in
     record { answer = refused-answer x NoSuchMode e; buffer = refused-buffer x NoSuchMode buffer e; after = refl }
 
-pub returns-then-is-waiting : goal.returns-then-is-waiting
-returns-then-is-waiting g c =
+pub returns-then-is_waiting : goal.returns-then-is_waiting
+returns-then-is_waiting g c =
     let w = c.args.self.now in
     let buffer = c.args.path.now in
     let x = showing (g.C.Chart.meaning c.args.chart.now) (state_of w) c.args.line c.args.mode (length buffer) in
-    let e = show-not-settled (g.C.Chart.meaning c.args.chart.now) (state_of w) c.args.line c.args.mode (length buffer) (rw (lines-used w) c.if-line-self.false) (omega arith) (leb-true w.tally.settled c.args.line (sym c.is-waiting.ensures ∙ c.if-is-waiting.true)) in
+    let e = show-not-settled (g.C.Chart.meaning c.args.chart.now) (state_of w) c.args.line c.args.mode (length buffer) (rw (lines-used w) c.if-line-self.false) (omega arith) (leb-true w.tally.settled c.args.line (sym c.is_waiting.ensures ∙ c.if-is_waiting.true)) in
     record { answer = refused-answer x NotSettled e; buffer = refused-buffer x NotSettled buffer e; after = refl }
 
 pub returns : goal.returns
@@ -47,7 +47,7 @@ returns g c =
     let m = c.args.mode in
     let buffer = c.args.path.now in
     let lent = lent-used w c.deref.result.now c.deref.ensures.value in
-    let e = show-settled μ (state_of w) i m (length buffer) (rw (lines-used w) c.if-line-self.false) (omega arith) (leb-false w.tally.settled c.args.line (sym c.is-waiting.ensures ∙ c.if-is-waiting.false)) in
+    let e = show-settled μ (state_of w) i m (length buffer) (rw (lines-used w) c.if-line-self.false) (omega arith) (leb-false w.tally.settled c.args.line (sym c.is_waiting.ensures ∙ c.if-is_waiting.false)) in
     record {
       answer =
           c.show.ensures.answer
