@@ -17,8 +17,8 @@ use Rattle.sheet.specs.declared.work.Work.{Work}
 use Rattle.sheet.proofs.Entered.{Entering, entering, full-after, full-few, full-kept, room-few, room-ordered, room_apart, room-kept, came-back}
 use Rattle.sheet.proofs.work.Work.enter.Goals as goal
 
-pub invariant_of-self-in-Err· : goal.invariant_of-self-in-Err·
-invariant_of-self-in-Err· g c =
+pub invariant_of-self-in-Err-1 : goal.invariant_of-self-in-Err-1
+invariant_of-self-in-Err-1 g c =
     let μ = g.C.Chart.meaning c.args.chart.now in
     let w = c.args.self.now in
     let xs = c.write_lines.new.lines in
@@ -30,19 +30,15 @@ invariant_of-self-in-Err· g c =
     let back = came-back w c.deref_mut.result.now xs c.deref_mut.ensures.value c.write_lines.auto.lines in
     let y = c.in-Err.refusal in
     let rules : rules_of (state_of w).progress ≡ rules_in t.lines (vec_items (with_items w.lines xs)) =
-    sym (ap rules_of (full-after μ w x c.write_lines.result t.lines t.settled xs e y c.in-Err.is)) ∙ ap (rules_in t.lines) (sym back) in (
-      w.rooms,
-      (
-        full-few μ w x c.write_lines.result t.lines t.settled xs e y c.in-Err.is,
-        (
-          w.listed,
-          (
-            w.reserved,
-            (subst (λ (rs : List Rule). ∥ Ordered rs ∥₁) rules w.ordered, (subst (λ (rs : List Rule). ∥ Distinct rs ∥₁) rules w.apart, tt)),
-          ),
-        ),
-      ),
-    )
+    sym (ap rules_of (full-after μ w x c.write_lines.result t.lines t.settled xs e y c.in-Err.is)) ∙ ap (rules_in t.lines) (sym back) in
+    record {
+      rooms = w.rooms;
+      few = full-few μ w x c.write_lines.result t.lines t.settled xs e y c.in-Err.is;
+      listed = w.listed;
+      reserved = w.reserved;
+      ordered = subst (λ (rs : List Rule). ∥ Ordered rs ∥₁) rules w.ordered;
+      apart = subst (λ (rs : List Rule). ∥ Distinct rs ∥₁) rules w.apart;
+    }
 
 pub invariant_of-self-in-Ok : goal.invariant_of-self-in-Ok
 invariant_of-self-in-Ok g c =
@@ -56,22 +52,15 @@ invariant_of-self-in-Ok g c =
     d.value (c.as_slice.ensures ∙ d.parts) (subst (λ (ps : List Part). length ps ≤ 255) (sym c.as_slice.ensures) d.few) c.deref_mut.ensures.value c.write_lines.ensures.property in
     let back = came-back w c.deref_mut.result.now xs c.deref_mut.ensures.value c.write_lines.auto.lines in
     let l = c.in-Ok.line in
-    let rules : rules_of (progress_of (take t.lines xs) t.settled) ≡ rules_in t.lines (vec_items (with_items w.lines xs)) = ap (rules_in t.lines) (sym back) in (
-      w.rooms,
-      (
-        room-few μ w x c.write_lines.result t.lines t.settled xs e l c.in-Ok.is,
-        (
-          omega arith,
-          (
-            omega arith,
-            (
-              subst (λ (rs : List Rule). ∥ Ordered rs ∥₁) rules (room-ordered μ w x c.write_lines.result t.lines t.settled xs e l c.in-Ok.is),
-              (subst (λ (rs : List Rule). ∥ Distinct rs ∥₁) rules (room_apart μ w x c.write_lines.result t.lines t.settled xs e l c.in-Ok.is), tt),
-            ),
-          ),
-        ),
-      ),
-    )
+    let rules : rules_of (progress_of (take t.lines xs) t.settled) ≡ rules_in t.lines (vec_items (with_items w.lines xs)) = ap (rules_in t.lines) (sym back) in
+    record {
+      rooms = w.rooms;
+      few = room-few μ w x c.write_lines.result t.lines t.settled xs e l c.in-Ok.is;
+      listed = omega arith;
+      reserved = omega arith;
+      ordered = subst (λ (rs : List Rule). ∥ Ordered rs ∥₁) rules (room-ordered μ w x c.write_lines.result t.lines t.settled xs e l c.in-Ok.is);
+      apart = subst (λ (rs : List Rule). ∥ Distinct rs ∥₁) rules (room_apart μ w x c.write_lines.result t.lines t.settled xs e l c.in-Ok.is);
+    }
 
 pub returns-in-Err : goal.returns-in-Err
 returns-in-Err g c =

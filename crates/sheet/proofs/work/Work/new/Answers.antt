@@ -4,4 +4,11 @@ use Rattle.sheet.proofs.work.Work.new.Goals as goal
 
 pub invariant_of-result : goal.invariant_of-result
 invariant_of-result c =
-    (c.in_ok-lines.ensures, (omega arith, (omega (arith, c.in_ok-entries.ensures), (omega (arith, c.in_ok-entries.ensures), (none-ordered, (none_apart, tt))))))
+    record {
+      rooms = c.in_ok-lines.ensures;
+      few = omega arith;
+      listed = omega (arith, c.in_ok-entries.ensures);
+      reserved = omega (arith, c.in_ok-entries.ensures);
+      ordered = none-ordered;
+      apart = none_apart;
+    }
