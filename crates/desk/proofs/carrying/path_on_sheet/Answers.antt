@@ -9,8 +9,8 @@ returns g c =
     let k = c.show-shown.ensures in
     record {
       answer =
-          cut-path c.args.path c.show-shown.new.path c.deref-mut.result.now (g.C.Chart.meaning s.chart) (state_of s.work) c.args.line c.args.mode
-          c.show-shown.result (path_in c.cut.result) c.deref-mut.ensures.len c.show-shown.auto.path k.answer k.buffer c.cut.ensures;
+          cut-path c.args.path c.show-shown.new.path c.deref_mut.result.now (g.C.Chart.meaning s.chart) (state_of s.work) c.args.line c.args.mode
+          c.show-shown.result (path_in c.cut.result) c.deref_mut.ensures.len c.show-shown.auto.path k.answer k.buffer c.cut.ensures;
       after = k.after;
       chart = k.chart;
     }

@@ -7,12 +7,12 @@ use Rattle.desk.proofs.session.prepare.Goals as goal
 pub loop-call-preserved : goal.loop-call-preserved
 loop-call-preserved c =
     let l = c.loop-call in
-    let t = c.in-ok-new.field-0 in
-    let here = c.in-ok-new.ensures in
+    let t = c.in_ok-new.field-0 in
+    let here = c.in_ok-new.ensures in
     let calls = c.args.calls.now in
     let i = l.call-index in
     let below = c.loop-call-test.true in
-    let e = c.push-reserved.ensures in
+    let e = c.push_reserved.ensures in
     let long = e.len in
     let cap = e.capacity in
     let n = l.invariant.1.0 in

@@ -7,12 +7,12 @@ use Rattle.desk.proofs.desks.Desk.carry_out.Goals as goal
 
 pub returns : goal.returns
 returns g c =
-    let k = c.on-desk.ensures in
+    let k = c.on_desk.ensures in
     let μ = g.C.Chart.meaning (chart_of c.args.self) in
     let t = task_of c.args.task in
-    let e = event_of c.on-desk.result.event in
+    let e = event_of c.on_desk.result.event in
     let d = standing_of c.args.self in
-    let d' = standing_of c.on-desk.result.desk in
+    let d' = standing_of c.on_desk.result.desk in
     record {
       event = k.event;
       after = k.after;

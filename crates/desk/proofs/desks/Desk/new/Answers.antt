@@ -6,9 +6,9 @@ use Rattle.desk.proofs.desks.Desk.new.Goals as goal
 pub returns : goal.returns
 returns g c =
     record {
-      made = c.set-up.ensures;
+      made = c.set_up.ensures;
       leads =
-          MatchResult-weaker c.set-up.result c.set-up.ensures
+          MatchResult-weaker c.set_up.result c.set_up.ensures
           (λ d h. leads-none (g.C.Chart.meaning (chart_of d)) (standing_of d) h.1)
           (λ e h. tt);
     }
