@@ -7,5 +7,5 @@ use Rattle.chartcheck.proofs.calls.calls_for.Goals as goal
 pub returns : goal.returns
 returns c =
     let gone = empty c.deref.result.now c.in-None.ensures.cases in
-    let none = sym c.in-ok-lines.ensures ∙ ap (map (λ x. x.now)) (sym c.deref.ensures.value ∙ gone) in
-    subst (λ ls. IfOk c.enter-all-in-None.result (λ v. map call_of (vec_items v) ≡ calls_for ls)) (sym none) c.enter-all-in-None.ensures
+    let none = sym c.in_ok-lines.ensures ∙ ap (map (λ x. x.now)) (sym c.deref.ensures.value ∙ gone) in
+    subst (λ ls. IfOk c.enter_all-in-None.result (λ v. map call_of (vec_items v) ≡ calls_for ls)) (sym none) c.enter_all-in-None.ensures

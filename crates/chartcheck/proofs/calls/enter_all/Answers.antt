@@ -12,7 +12,7 @@ loop-text-preserved c =
     let names = c.args.names.now in
     let texts = c.args.texts.now in
     let none : Bor (List ℕ) = record { ref_ptr = (0, 0); now = [] } in
-    let grown = pushed (_ ∷ []) refl c.in-ok-push.was c.push.ensures.items in
+    let grown = pushed (_ ∷ []) refl c.in_ok-push.was c.push.ensures.items in
     ap (map call_of) grown
     ∙ (map-append call_of (vec_items l.calls) (_ ∷ [])
     ∙ (ap (λ (ys : List Call). ys ++ enter names (get_or texts l.text-index none).now ∷ []) l.invariant
@@ -22,7 +22,7 @@ pub returns : goal.returns
 returns c =
     let l = c.loop-text in
     let names = c.args.names.now in
-    let grown = pushed (_ ∷ []) refl c.in-ok-push-2.was c.push-2.ensures.items in
+    let grown = pushed (_ ∷ []) refl c.in_ok-push-2.was c.push-2.ensures.items in
     ap (map call_of) grown
     ∙ (map-append call_of (vec_items l.calls) (_ ∷ [])
     ∙ ap (λ (ys : List Call). ys ++ finish ∷ []) (l.invariant ∙ ap (λ t. map (enter names) (map (λ x. x.now) t)) (take_all l.text-index c.args.texts.now c.loop-text-test.false)))

@@ -5,12 +5,12 @@ use Rattle.chartcheck.proofs.telling.first_refusal.Goals as goal
 
 pub returns-in-Some : goal.returns-in-Some
 returns-in-Some c =
-    one-event c.args.log.now c.loop-event.event-index c.event-item.result _ _ c.loop-event-test.true c.event-item.is c.refusal-of.ensures c.in-Some.is
+    one-event c.args.log.now c.loop-event.event-index c.event-item.result _ _ c.loop-event-test.true c.event-item.is c.refusal_of.ensures c.in-Some.is
     ∙ c.loop-event.invariant
 
 pub loop-event-preserved : goal.loop-event-preserved
 loop-event-preserved c =
-    one-event c.args.log.now c.loop-event.event-index c.event-item.result _ _ c.loop-event-test.true c.event-item.is c.refusal-of.ensures c.in-default.is
+    one-event c.args.log.now c.loop-event.event-index c.event-item.result _ _ c.loop-event-test.true c.event-item.is c.refusal_of.ensures c.in_default.is
     ∙ c.loop-event.invariant
 
 pub returns : goal.returns

@@ -10,6 +10,6 @@ returns-in-Reopen c =
     let out = c.args.out.now in
     let is = ap (λ (k : Call). ended (barred_text (call_of k))) (sym c.in-Reopen.is) in
     record {
-      answer = c.put-text.ensures.answer ∙ ap (λ t. placed t (length out)) is;
-      buffer = c.put-text.ensures.buffer ∙ ap (λ t. overlaid t out) is;
+      answer = c.put_text.ensures.answer ∙ ap (λ t. placed t (length out)) is;
+      buffer = c.put_text.ensures.buffer ∙ ap (λ t. overlaid t out) is;
     }

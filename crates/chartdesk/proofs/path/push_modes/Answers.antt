@@ -9,7 +9,7 @@ use Rattle.chartdesk.proofs.path.push_modes.Goals as goal
 pub loop-mode-preserved : goal.loop-mode-preserved
 loop-mode-preserved c =
     let l = c.loop-mode in
-    c.in-ok-push-both.ensures
+    c.in_ok-push_both.ensures
     ∙ mode-spelled (flat_map spelling (vec_items c.args.pieces.now)) (flat_map spelling (vec_items l.pieces)) c.args.modes.now l.mode-index c.loop-mode-test.true l.invariant
 
 pub returns : goal.returns

@@ -21,7 +21,7 @@ returns-in-None c =
     let μ = meaning_of (chart_of c.args.desk) in
     let d = standing_of c.args.desk in
     let said = command_of c.args.names.now c.args.line.now in
-    let k = c.put-text in
+    let k = c.put_text in
     let out = c.args.out.now in
     let done = done-as μ None said d d out k.new.out k.result false c.in-None.ensures (inl (record { standing = refl; laid = (k.ensures.answer, k.ensures.buffer); kind = refl })) in
     record { done = done; chart = refl; leads = leads-on μ said d d out k.new.out k.result false done }

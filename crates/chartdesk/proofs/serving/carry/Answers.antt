@@ -10,18 +10,18 @@ pub returns-in-Ok : goal.returns-in-Ok
 returns-in-Ok c =
     let μ = meaning_of (chart_of c.args.desk) in
     let d = standing_of c.args.desk in
-    let k = c.carry-out-desk.ensures in
+    let k = c.carry_out-desk.ensures in
     let same = c.in-Ok.ensures in
     record {
       done =
-          carried-done μ d (standing_of c.carry-out-desk.result.desk) (call_of c.args.call) (event_of c.carry-out-desk.result.event) _ _ _
+          carried-done μ d (standing_of c.carry_out-desk.result.desk) (call_of c.args.call) (event_of c.carry_out-desk.result.event) _ _ _
           (k.event ∙ ap (λ (x : Call). (step μ d x).event) same)
           (k.after ∙ ap (λ (x : Call). (step μ d x).after) same)
-          c.put-answer-told.ensures;
+          c.put_answer-told.ensures;
       chart = k.chart;
     }
 
 pub returns-in-Err : goal.returns-in-Err
 returns-in-Err c =
-    let k = c.put-refusal.ensures in
+    let k = c.put_refusal.ensures in
     record { done = inr (record { standing = refl; laid = (k.answer, k.buffer); kind = refl }); chart = refl }

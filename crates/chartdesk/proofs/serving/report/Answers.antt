@@ -18,7 +18,7 @@ returns-in-Book c =
 
 pub returns-in-Sheet : goal.returns-in-Sheet
 returns-in-Sheet c =
-    let k = c.put-text.ensures in
+    let k = c.put_text.ensures in
     record {
       done = done_at (Some report_said) c.args.desk _ c.in-Sheet.is (record { standing = refl; laid = (k.answer, k.buffer); kind = refl });
       chart = ap chart_of (sym c.in-Sheet.is);
