@@ -6,7 +6,7 @@ use Rattle.std.proofs.lemmas.Nat.{and_mask}
 use Rattle.std.proofs.lemmas.List.FromFn.{length-map-range_with_len, get_or-map-range_with_len, fill_by_all}
 use Rattle.std.proofs.lemmas.List.{get_or-map, get_or_past, length-map}
 use Rattle.std.proofs.lemmas.Option.{slice_get_past}
-use Rattle.ctl.specs.Chart.{blank, size, row, degree}
+use Rattle.ctl.specs.Chart.{blank, size, row}
 use Rattle.chart.specs.declared.record.ModeRecord.{ModeRecord}
 use Rattle.chart.specs.Records.{bit, masked, row_of, meaning_of}
 

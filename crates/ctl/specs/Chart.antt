@@ -1,6 +1,6 @@
 -- What a chart means: a finite Kripke structure whose modes (states) have ordered ways (transitions) and marks
 -- (atomic propositions). Modes, marks and places count from 0.
-use Rattle.std.specs.Prelude.{◌≡◌, ℕ, zero, suc, ◌+◌, ◌*◌, ◌/◌, ◌%◌, ◌<◌, ◌≤◌, Bool, true, false, cond, ◌&&◌, List, [], ◌∷◌, ◌++◌, map, length, Option, ◌==◌, nat_le, slice_index, slice_index_or}
+use Rattle.std.specs.Prelude.{◌≡◌, ℕ, ◌+◌, ◌*◌, ◌/◌, ◌%◌, ◌<◌, ◌≤◌, Bool, false, cond, ◌&&◌, List, [], ◌∷◌, ◌++◌, map, length, Option, ◌==◌, nat_le, slice_index, slice_index_or}
 use Rattle.std.specs.List.{range_with_len, slice_get}
 
 -- one mode: whether each mark stands there, and where its ways out lead, in order

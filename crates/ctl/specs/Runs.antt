@@ -1,5 +1,5 @@
 -- Unending runs of a chart, and what a property says of them.
-use Rattle.std.specs.Prelude.{◌≡◌, ℕ, suc, ◌<◌, Bool, true, false, ◌⊎◌, slice_index}
+use Rattle.std.specs.Prelude.{◌≡◌, ℕ, suc, ◌<◌, true, ◌⊎◌, slice_index}
 use Rattle.ctl.specs.Chart.{Meaning, degree, ways_of, stands}
 use Rattle.ctl.specs.Property.{Property, constant, name, negation, join, next, path}
 use Rattle.ctl.specs.declared.rule.Quantifier.{Quantifier}

@@ -1,5 +1,5 @@
 -- Tests over lists, which the other definitions share.
-use Rattle.std.specs.Prelude.{ℕ, Bool, true, false, cond, not, ◌&&◌, ◌||◌, List, [], ◌∷◌, slice_index_or}
+use Rattle.std.specs.Prelude.{ℕ, Bool, true, false, not, ◌&&◌, ◌||◌, List, [], ◌∷◌, slice_index_or}
 
 -- some element passes
 abbrev pub any : {X : Type 0} → (X → Bool) → List X → Bool

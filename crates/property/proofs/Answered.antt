@@ -1,5 +1,5 @@
 -- The answer to a text over a list of names is right, and the only right one.
-use Rattle.std.proofs.Common.{◌≡◌, ℕ, zero, suc, ◌+◌, ◌-◌, ◌<◌, ◌≤◌, Bool, true, false, cond, ◌&&◌, leb, ◌⊎◌, List, [], ◌∷◌, ◌++◌, length, get_or, take, drop, is_some, Some, None, Ok, Err, Option, Result, sym, refl, ap, ◌∙◌, subst, inl, inr, append_assoc, arith}
+use Rattle.std.proofs.Common.{◌≡◌, ℕ, zero, suc, ◌+◌, ◌<◌, ◌≤◌, true, false, cond, ◌&&◌, leb, List, [], ◌∷◌, ◌++◌, length, get_or, drop, is_some, Some, None, Ok, Err, Option, Result, sym, refl, ap, ◌∙◌, subst, inl, inr, append_assoc, arith}
 use Rattle.std.proofs.lemmas.List.{append-nil, length-append, drop_at}
 use Rattle.std.proofs.lemmas.Bool.{both_ways, cases_Bool, and_parts, and_from, cond-true, cond-false, leb-true}
 use Rattle.basis.specs.declared.refusal.Refusal.{Refusal}
@@ -11,14 +11,14 @@ use Rattle.property.specs.declared.shape.Middle.TheVariants.{Join, Path}
 use Rattle.property.specs.declared.shape.Closing.{Closing}
 use Rattle.property.specs.declared.shape.Closing.TheVariants.{Round as RoundEnd, Square as SquareEnd}
 use Rattle.property.specs.Syntax.{Syntax, named, truth, unary, binary}
-use Rattle.property.specs.Words.{Word, letters, digit, before, opening, middle, closing, spelling, spelled, letters_of, Formed, none, fault, made, form, Scan, ends, fails, more, scan}
+use Rattle.property.specs.Words.{Word, letters, digit, before, opening, middle, closing, spelling, spelled, letters_of, Formed, none, fault, made, form, more, scan}
 use Rattle.std.specs.Str.{bytes_eq}
 use Rattle.std.proofs.lemmas.Slice.Eq.{bytes_eq-Decides}
 use Rattle.property.specs.Lists.{place_from, place_of, proper, all_letters}
 use Rattle.property.specs.Writing.{middle_of, closing_of, written, Viable, known, all_known}
-use Rattle.property.specs.Machine.{Frame, State, want, have, stuck, step, is_stuck}
+use Rattle.property.specs.Machine.{State, want, have, stuck, step, is_stuck}
 use Rattle.property.specs.Reading.{finish, read_on}
-use Rattle.property.specs.Laws.{Proper, Whole, Apart, Before, FaultOfForming, FaultOfToken, FaultOfEnd, FaultOfName, Faults, Missing, NoneFormed}
+use Rattle.property.specs.Laws.{Proper, Whole, Apart, Before, Faults, Missing, NoneFormed}
 use Rattle.property.proofs.Fitted.{steps, steps-append, stays, through-all, Told, told-steps, viable-from, free-from}
 use Rattle.property.proofs.Scanned.{front, form-whole, none-formed, form-end, form-none, scan-made, scan-fault, scan-end}
 

@@ -1,5 +1,5 @@
 -- A loop over the tokens of a text: what one answer of the reader says of the tokens that are left.
-use Rattle.std.proofs.Common.{◌≡◌, ℕ, suc, ◌+◌, ◌<◌, ◌≤◌, Bool, true, false, cond, ◌&&◌, List, [], ◌∷◌, ◌++◌, length, drop, Some, None, Ok, Err, Option, Result, sym, refl, ap, ◌∙◌, subst, arith}
+use Rattle.std.proofs.Common.{◌≡◌, ℕ, ◌+◌, ◌<◌, ◌≤◌, Bool, true, false, cond, ◌&&◌, List, [], ◌∷◌, length, drop, Some, None, Ok, Err, Option, Result, sym, refl, ap, ◌∙◌, subst, arith}
 use Rattle.std.proofs.lemmas.List.{length-append}
 use Rattle.basis.specs.declared.refusal.Refusal.{Refusal}
 use Rattle.basis.specs.declared.refusal.Refusal.TheVariants.{NoToken, Grammar}
@@ -7,10 +7,10 @@ use Rattle.property.specs.declared.shape.BinaryOperator.{BinaryOperator}
 use Rattle.property.specs.declared.shape.Tag.{Tag}
 use Rattle.property.specs.declared.shape.Tag.TheVariants.{Unary, Left, Right}
 use Rattle.property.specs.declared.shape.Part.{Part}
-use Rattle.property.specs.Words.{Word, letters, digit, before, opening, middle, closing, spelling, Formed, none, fault, made, form, Scan, ends, fails, more, scan}
+use Rattle.property.specs.Words.{Word, letters, digit, before, opening, middle, closing, spelling, Formed, none, fault, made, form, scan}
 use Rattle.property.specs.Lists.{place_of}
 use Rattle.property.specs.Forming.{answer_to, taken}
-use Rattle.property.specs.Flat.{Fitted, older_tags, rest_tags, unaries, separated, closed, operand, named, halved, ended, fitted, with_state, is_none, onward, fit_all, with_parts}
+use Rattle.property.specs.Flat.{Fitted, older_tags, rest_tags, unaries, separated, closed, operand, named, halved, ended, fitted, is_none, onward, fit_all, with_parts}
 use Rattle.property.proofs.Scanned.{front, form-end, scan-made, scan-fault, scan-end}
 
 -- no token can be formed

@@ -1,7 +1,7 @@
 -- What is formed at the front of a text is the token that stands there, or shows that none can be formed.
-use Rattle.std.proofs.Common.{◌≡◌, ℕ, zero, suc, ◌+◌, ◌-◌, ◌<◌, ◌≤◌, Bool, true, false, cond, ◌&&◌, eqb, leb, ◌⊎◌, List, [], ◌∷◌, ◌++◌, length, take, drop, Some, None, Option, sym, refl, ap, ◌∙◌, subst, inl, inr, append_assoc, suc-le-suc, zero-le, arith}
-use Rattle.std.proofs.lemmas.List.{append-nil, length-append, length-take, take-take, take-append-drop}
-use Rattle.std.proofs.lemmas.Bool.{both_ways, cases_Bool, cases_order, cases_lt, eqb-true, and_parts, cond-true, cond-false}
+use Rattle.std.proofs.Common.{◌≡◌, ℕ, zero, suc, ◌+◌, ◌-◌, ◌<◌, ◌≤◌, true, false, ◌&&◌, eqb, ◌⊎◌, List, [], ◌∷◌, ◌++◌, length, take, drop, Some, None, Option, sym, refl, ap, ◌∙◌, subst, inl, inr, append_assoc, suc-le-suc, zero-le, arith}
+use Rattle.std.proofs.lemmas.List.{append-nil, length-append, take-take, take-append-drop}
+use Rattle.std.proofs.lemmas.Bool.{cases_Bool, cases_order, eqb-true, and_parts, cond-true, cond-false}
 use Rattle.ctl.specs.declared.rule.Quantifier.{Quantifier}
 use Rattle.ctl.specs.declared.rule.Quantifier.TheVariants.{Exists, Forall}
 use Rattle.ctl.specs.declared.rule.Connective.TheVariants.{And, Or}
@@ -10,7 +10,7 @@ use Rattle.property.specs.declared.shape.UnaryOperator.TheVariants.{Not, Next, F
 use Rattle.property.specs.declared.shape.Opening.TheVariants.{Round, Square}
 use Rattle.property.specs.declared.shape.Middle.TheVariants.{Join, Path}
 use Rattle.property.specs.declared.shape.Closing.TheVariants.{Round as RoundEnd, Square as SquareEnd}
-use Rattle.property.specs.Words.{Word, letters, digit, before, opening, middle, closing, capital, spelling, spelled, is_letter, letters_of, found, singles, capitals, completions, Formed, none, fault, made, or_fault, completed, begun, form, Scan, ends, fails, more, placed, scan}
+use Rattle.property.specs.Words.{Word, letters, digit, before, opening, middle, closing, capital, spelling, is_letter, letters_of, found, singles, capitals, completions, Formed, none, fault, made, or_fault, begun, form, ends, fails, more, placed, scan}
 use Rattle.property.specs.Lists.{all_letters}
 use Rattle.property.specs.Laws.{Proper, Whole, Begins, NoneFormed}
 

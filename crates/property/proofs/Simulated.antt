@@ -1,6 +1,6 @@
 -- The code's way of fitting tokens, with tags and parts, gives the parts of the tree that the machine builds.
-use Rattle.std.proofs.Common.{◌≡◌, ℕ, ◌+◌, ◌<◌, ◌≤◌, Bool, true, false, cond, ◌&&◌, List, [], ◌∷◌, ◌++◌, length, is_some, Some, None, Ok, Err, Option, Result, unwrap_or, sym, refl, ap, ◌∙◌, subst, inl, inr, append_assoc, arith}
-use Rattle.std.proofs.lemmas.List.{append-nil, length-append, length_push}
+use Rattle.std.proofs.Common.{◌≡◌, ℕ, ◌+◌, Bool, true, false, cond, ◌&&◌, List, [], ◌∷◌, ◌++◌, length, is_some, Some, None, Ok, Err, Option, Result, unwrap_or, sym, refl, ap, ◌∙◌, inl, inr, append_assoc, arith}
+use Rattle.std.proofs.lemmas.List.{append-nil, length_push}
 use Rattle.std.proofs.lemmas.Bool.{both_ways, cases_Bool, cond-true, cond-false}
 use Rattle.basis.specs.declared.refusal.Refusal.{Refusal}
 use Rattle.basis.specs.declared.refusal.Refusal.TheVariants.{Grammar, UnknownName}
@@ -8,7 +8,7 @@ use Rattle.property.specs.declared.shape.UnaryOperator.{UnaryOperator}
 use Rattle.property.specs.declared.shape.Tag.{Tag}
 use Rattle.property.specs.declared.shape.Tag.TheVariants.{Unary, Left, Right}
 use Rattle.property.specs.declared.shape.Part.{Part}
-use Rattle.property.specs.declared.shape.Part.TheVariants.{Constant, Name, Unary as UnaryPart, Binary}
+use Rattle.property.specs.declared.shape.Part.TheVariants.{Name, Unary as UnaryPart}
 use Rattle.property.specs.declared.shape.BinaryOperator.TheVariants.{Join, Path}
 use Rattle.property.specs.declared.shape.Opening.TheVariants.{Round, Square}
 use Rattle.property.specs.declared.shape.Middle.TheVariants.{Join as Joins, Path as Paths}

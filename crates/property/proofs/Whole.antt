@@ -1,14 +1,14 @@
 -- The whole answer, names as marks: it is right, and the only right one. And parts in postfix order give their tree back.
-use Rattle.std.proofs.Common.{◌≡◌, ℕ, suc, ◌+◌, ◌<◌, ◌≤◌, Bool, true, false, cond, ◌&&◌, leb, ◌⊎◌, List, [], ◌∷◌, ◌++◌, length, get_or, is_some, is_err, Some, None, Ok, Err, Option, Result, unwrap_or, sym, refl, ap, ◌∙◌, subst, inl, inr, append_assoc, arith}
+use Rattle.std.proofs.Common.{◌≡◌, ℕ, ◌+◌, ◌<◌, ◌≤◌, true, false, cond, ◌&&◌, leb, List, [], ◌∷◌, ◌++◌, length, get_or, is_some, is_err, Some, Ok, Err, Result, unwrap_or, sym, refl, ap, ◌∙◌, subst, inl, inr, append_assoc, arith}
 use Rattle.std.proofs.lemmas.Bool.{both_ways, cases_Bool, and_parts, and_from, cond-true, cond-false, leb-true, le-leb}
 use Rattle.std.proofs.lemmas.List.{append-nil, length-append}
 use Rattle.basis.specs.declared.refusal.Refusal.{Refusal}
 use Rattle.basis.specs.declared.refusal.Refusal.TheVariants.{NameList, TextLength}
 use Rattle.property.specs.declared.shape.Part.{Part}
-use Rattle.property.specs.declared.shape.Part.TheVariants.{Constant, Name, Unary, Binary}
+use Rattle.property.specs.declared.shape.Part.TheVariants.{Unary, Binary}
 use Rattle.property.specs.Syntax.{Syntax, named, truth, unary, binary, renamed, parts, built}
 use Rattle.property.specs.Words.{Word, before, opening, middle, closing, spelling, spelled, scan}
-use Rattle.property.specs.Lists.{listed, place_of, all_letters, proper, good_list, Listing}
+use Rattle.property.specs.Lists.{listed, place_of, all_letters, proper, good_list}
 use Rattle.property.specs.Writing.{opening_of, middle_of, closing_of, written, all_known}
 use Rattle.property.specs.Machine.{want}
 use Rattle.property.specs.Reading.{read_on, mark_of, marked, fits_length, reading, outcome, parts_of}

@@ -1,5 +1,5 @@
 -- How the reader forms tokens: byte by byte, in a state in which a capital may wait.
-use Rattle.std.specs.Prelude.{ℕ, ◌+◌, ◌-◌, Bool, true, false, cond, List, [], ◌∷◌, ◌++◌, length, drop, Some, None, Ok, Err, Option, Result}
+use Rattle.std.specs.Prelude.{ℕ, ◌+◌, ◌-◌, cond, List, [], ◌∷◌, ◌++◌, length, drop, Some, None, Ok, Err, Option, Result}
 use Rattle.basis.specs.declared.refusal.Refusal.{Refusal}
 use Rattle.basis.specs.declared.refusal.Refusal.TheVariants.{NoToken}
 use Rattle.ctl.specs.declared.rule.Quantifier.{Quantifier}
@@ -10,7 +10,7 @@ use Rattle.property.specs.declared.tokens.Capital.{Capital}
 use Rattle.property.specs.declared.tokens.Capital.TheVariants.{Plain, After}
 use Rattle.property.specs.declared.tokens.Step.{Step}
 use Rattle.property.specs.declared.tokens.Step.TheVariants.{Name as NameStep, Wait, Whole, Fault}
-use Rattle.property.specs.Words.{Word, letters, digit, before, opening, middle, closing, capital, spelling, is_letter, letters_of, found, singles, capitals, completions, Formed, none, fault, made}
+use Rattle.property.specs.Words.{Word, letters, digit, before, opening, middle, closing, capital, spelling, is_letter, found, singles, capitals, completions, Formed, none, fault, made}
 
 -- a token as the definitions have it: a name is the letters that it borrows
 abbrev pub word_of : Token → Word

@@ -1,5 +1,5 @@
 -- Fitting tokens to the grammar, one after another: what waits, and the operand that stands complete.
-use Rattle.std.specs.Prelude.{ℕ, Bool, true, false, List, [], ◌∷◌, ◌++◌, Some, None, Option}
+use Rattle.std.specs.Prelude.{ℕ, Bool, true, false, List, [], ◌∷◌, Some, None, Option}
 use Rattle.property.specs.declared.shape.UnaryOperator.{UnaryOperator}
 use Rattle.property.specs.declared.shape.BinaryOperator.{BinaryOperator}
 use Rattle.property.specs.declared.shape.BinaryOperator.TheVariants.{Join, Path}

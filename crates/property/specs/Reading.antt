@@ -1,14 +1,14 @@
 -- What reading a text answers: its tree over marks, or the first refusal.
-use Rattle.std.specs.Prelude.{ℕ, Bool, true, false, cond, ◌&&◌, List, [], ◌∷◌, ◌++◌, length, Ok, Err, Result, nat_le}
+use Rattle.std.specs.Prelude.{ℕ, Bool, cond, ◌&&◌, List, [], ◌∷◌, length, Ok, Err, Result, nat_le}
 use Rattle.std.specs.Option.{unwrap_or}
 use Rattle.basis.specs.declared.refusal.Refusal.{Refusal}
 use Rattle.basis.specs.declared.refusal.Refusal.TheVariants.{NameList, TextLength, NoToken, Grammar, UnknownName}
 use Rattle.property.specs.declared.shape.Part.{Part}
 use Rattle.property.specs.Syntax.{Syntax, renamed, parts}
-use Rattle.property.specs.Words.{Word, Scan, ends, fails, more, scan}
+use Rattle.property.specs.Words.{Scan, ends, fails, more, scan}
 use Rattle.property.specs.Lists.{listed, place_of, good_list}
 use Rattle.property.specs.Writing.{known}
-use Rattle.property.specs.Machine.{Frame, State, want, have, stuck, step, is_stuck}
+use Rattle.property.specs.Machine.{State, want, have, stuck, step, is_stuck}
 
 -- at the text's end one operand has to stand complete, with nothing waiting
 abbrev pub finish : State → ℕ → Result (Syntax (List ℕ)) Refusal

@@ -1,6 +1,5 @@
 -- The syntax tree of a property as it is written, over names of any kind, its parts in postfix order, and the property that it means.
-use Rattle.std.specs.Prelude.{ℕ, Bool, true, false, List, [], ◌∷◌, ◌++◌}
-use Rattle.ctl.specs.declared.rule.Quantifier.{Quantifier}
+use Rattle.std.specs.Prelude.{ℕ, Bool, List, [], ◌∷◌, ◌++◌}
 use Rattle.ctl.specs.Property.{Property, constant, name, negation, join, next, path, finally, globally}
 use Rattle.property.specs.declared.shape.UnaryOperator.{UnaryOperator}
 use Rattle.property.specs.declared.shape.UnaryOperator.TheVariants.{Not, Next, Finally, Globally}

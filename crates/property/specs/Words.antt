@@ -1,5 +1,5 @@
 -- Tokens by their spelling, and how a text falls into tokens.
-use Rattle.std.specs.Prelude.{ℕ, zero, suc, ◌+◌, ◌-◌, ◌≤◌, Bool, true, false, cond, ◌&&◌, List, [], ◌∷◌, ◌++◌, length, Some, None, Option, ◌==◌, nat_le}
+use Rattle.std.specs.Prelude.{ℕ, zero, suc, ◌+◌, ◌-◌, Bool, true, false, cond, ◌&&◌, List, [], ◌∷◌, ◌++◌, length, Some, None, Option, ◌==◌, nat_le}
 use Rattle.ctl.specs.declared.rule.Quantifier.{Quantifier}
 use Rattle.ctl.specs.declared.rule.Quantifier.TheVariants.{Exists, Forall}
 use Rattle.ctl.specs.declared.rule.Connective.TheVariants.{And, Or}

@@ -1,5 +1,5 @@
 -- The grammar as a writer: the tokens that write a syntax tree over names by their letters.
-use Rattle.std.specs.Prelude.{◌≡◌, ℕ, Bool, true, false, ◌&&◌, List, [], ◌∷◌, ◌++◌, is_some}
+use Rattle.std.specs.Prelude.{◌≡◌, ℕ, Bool, true, ◌&&◌, List, [], ◌∷◌, ◌++◌, is_some}
 use Rattle.property.specs.declared.shape.BinaryOperator.{BinaryOperator}
 use Rattle.property.specs.declared.shape.BinaryOperator.TheVariants.{Join, Path}
 use Rattle.property.specs.declared.shape.Opening.{Opening}

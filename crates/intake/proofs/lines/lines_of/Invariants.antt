@@ -1,4 +1,4 @@
-use Rattle.std.proofs.Common.{◌≡◌, ◌+◌, ◌-◌, ◌≤◌, ◌++◌, map, length, drop, vec_items}
+use Rattle.std.proofs.Common.{◌≡◌, ◌-◌, ◌++◌, map, length, drop, vec_items}
 use Rattle.intake.specs.Lines.{lines_of}
 use Rattle.intake.proofs.lines.lines_of.Given as goal
 

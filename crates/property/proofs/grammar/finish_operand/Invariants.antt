@@ -1,4 +1,4 @@
-use Rattle.std.proofs.Common.{◌≡◌, ◌+◌, ◌≤◌, ◌∷◌, ◌++◌, length, vec_items}
+use Rattle.std.proofs.Common.{◌≡◌, ◌+◌, ◌≤◌, ◌++◌, length, vec_items}
 use Rattle.basis.specs.Stacks.{held}
 use Rattle.property.specs.Flat.{tags, rest_tags, unaries}
 use Rattle.property.proofs.grammar.finish_operand.Given as goal

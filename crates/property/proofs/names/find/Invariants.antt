@@ -1,4 +1,4 @@
-use Rattle.std.proofs.Common.{◌≡◌, ◌+◌, ◌-◌, ◌≤◌, length}
+use Rattle.std.proofs.Common.{◌≡◌, ◌+◌, ◌≤◌, length}
 use Rattle.property.specs.Lists.{place_from, place_of, listed, remaining}
 use Rattle.property.proofs.names.find.Given as goal
 

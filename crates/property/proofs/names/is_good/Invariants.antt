@@ -1,5 +1,5 @@
-use Rattle.std.proofs.Common.{◌≡◌, ◌+◌, ◌-◌, ◌≤◌, ◌&&◌, eqb, length}
-use Rattle.property.specs.Lists.{sound, good_list, listed, remaining}
+use Rattle.std.proofs.Common.{◌≡◌, ◌+◌, length}
+use Rattle.property.specs.Lists.{sound, listed, remaining}
 use Rattle.property.proofs.names.is_good.Given as goal
 
 abbrev pub invariant-loop-name : goal.invariant-loop-name

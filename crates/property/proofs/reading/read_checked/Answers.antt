@@ -1,4 +1,4 @@
-use Rattle.std.proofs.Common.{Err, vec_items, sym, ap, ◌∙◌}
+use Rattle.std.proofs.Common.{Err, vec_items, ap, ◌∙◌}
 use Rattle.std.proofs.lemmas.Result.{err_from_is_err_and}
 use Rattle.property.specs.Flat.{with_parts}
 use Rattle.property.proofs.Whole.{refused-list, refused-length, read-parts}

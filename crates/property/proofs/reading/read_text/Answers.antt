@@ -1,9 +1,7 @@
-use Rattle.std.proofs.Common.{Some, Ok, Err, vec_items, sym, ap, ◌∙◌}
+use Rattle.std.proofs.Common.{Ok, Err, vec_items, sym, ap, ◌∙◌}
 use Rattle.std.proofs.lemmas.Result.{err_from_is_err_and}
-use Rattle.basis.specs.Stacks.{held}
-use Rattle.property.specs.Lists.{listed}
-use Rattle.property.specs.Forming.{unread, place_in, viewed}
-use Rattle.property.specs.Flat.{tags, with_parts}
+use Rattle.property.specs.Forming.{viewed}
+use Rattle.property.specs.Flat.{with_parts}
 use Rattle.property.proofs.Driven.{turn-fault, turn_end, turn-room, turn-refused, turn_on}
 use Rattle.property.proofs.reading.read_text.Goals as goal
 

@@ -1,5 +1,5 @@
 use Rattle.std.proofs.Common.{Some, Ok, ap, ◌∙◌}
-use Rattle.property.specs.Forming.{word_of, unread, place_in}
+use Rattle.property.specs.Forming.{word_of}
 use Rattle.property.proofs.Turned.{stands-name, stands-whole, stands-fault, stands-wait, stands-end, stands-short}
 use Rattle.property.proofs.reader.TokenReader.next.Goals as goal
 

@@ -1,4 +1,4 @@
-use Rattle.std.proofs.Common.{◌≡◌, ◌+◌, ◌-◌, ◌≤◌, length}
+use Rattle.std.proofs.Common.{◌≡◌, ◌-◌, length}
 use Rattle.property.specs.Forming.{unread, place_in}
 use Rattle.property.proofs.reader.TokenReader.next.Given as goal
 
