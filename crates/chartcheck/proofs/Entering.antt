@@ -1,7 +1,7 @@
 -- One text more is entered, or there is none.
 use Rattle.std.proofs.Common.{◌≡◌, ℕ, ◌+◌, ◌<◌, List, [], ◌∷◌, ◌++◌, map, length, get_or, take, refl, ap, ◌∙◌, arith}
 use Rattle.std.proofs.lemmas.List.{map-append, take_more}
-use Rattle.desk.specs.Calls.{Call, enter}
+use Rattle.desk.specs.Calls.{enter}
 
 pub one_more : {X : Type 0} (f : X → List ℕ) (names : List ℕ) (xs : List X) (i : ℕ) (d : X) → i < length xs → map (enter names) (map f (take (i + 1) xs)) ≡ map (enter names) (map f (take i xs)) ++ enter names (f (get_or xs i d)) ∷ []
 one_more f names xs i d h =

@@ -1,5 +1,5 @@
 -- What carrying out a call gives, and where it leads.
-use Rattle.std.proofs.Common.{◌≡◌, ℕ, Bool, true, false, List, Some, None, Option, sym, refl, ap, ◌∙◌, subst, inl, inr}
+use Rattle.std.proofs.Common.{◌≡◌, ℕ, Bool, true, false, List, Some, None, Option, sym, refl, ◌∙◌, subst, inl, inr}
 use Rattle.chart.specs.Filed.{chart_of as meaning_of}
 use Rattle.chart.specs.declared.filed.FiledChart.{FiledChart}
 use Rattle.ctl.specs.Chart.{Meaning}

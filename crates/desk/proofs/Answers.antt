@@ -1,6 +1,6 @@
 -- What the answers of a sheet or a book say of the state that gave them.
-use Rattle.std.proofs.Common.{◌≡◌, ℕ, ◌+◌, ◌<◌, ◌≤◌, Bool, true, false, cond, ◌&&◌, ltb, leb, ◌⊎◌, List, [], ◌∷◌, map, length, get_or, Ok, Err, Result, sym, refl, ap, ◌∙◌, subst, inl, inr, ⊎_elim, arith}
-use Rattle.std.proofs.lemmas.Bool.{ltb-true, leb-true, leb-false, ltb-false, lt-ltb, and_parts, and_cases, false≢true, true≢false}
+use Rattle.std.proofs.Common.{◌≡◌, ℕ, ◌<◌, ◌≤◌, Bool, true, false, cond, ◌&&◌, ltb, leb, ◌⊎◌, length, Ok, Err, Result, sym, refl, ap, ◌∙◌, subst, inl, inr, ⊎_elim, arith}
+use Rattle.std.proofs.lemmas.Bool.{ltb-true, leb-true, leb-false, ltb-false, lt-ltb, and_parts, and_cases, false≢true}
 use Rattle.basis.specs.declared.refusal.Refusal.{Refusal}
 use Rattle.basis.specs.declared.refusal.Refusal.TheVariants.{SheetFull, NoSuchLine, NoSuchMode, NotSettled, NoSuchPath, ShortPath}
 use Rattle.ctl.specs.Chart.{Meaning, size}
@@ -10,8 +10,8 @@ use Rattle.ctl.specs.PathLaws.{shape_at}
 use Rattle.ctl.specs.Property.{Form, normal}
 use Rattle.ctl.specs.Rounds.{Progress, rules_of, verdict}
 use Rattle.ctl.specs.declared.rule.Verdict.{Verdict}
-use Rattle.property.specs.Syntax.{Syntax, property_of}
-use Rattle.sheet.specs.State.{State, Entered, asked, showing, borne_out, has_path, fitted, room_for, kept, after_reading}
+use Rattle.property.specs.Syntax.{Syntax}
+use Rattle.sheet.specs.State.{State, Entered, asked, showing, borne_out, has_path, fitted, after_reading}
 use Rattle.desk.specs.Past.{property_in}
 
 -- an answer behind a test

@@ -1,5 +1,5 @@
 -- A buffer that was shown a path, cut to its modes.
-use Rattle.std.proofs.Common.{◌≡◌, ℕ, ◌≤◌, Bool, cond, leb, List, ◌++◌, length, take, drop, Ok, Err, vec_items, vec_len, Result, Vec, sym, refl, ap, ◌∙◌}
+use Rattle.std.proofs.Common.{◌≡◌, ℕ, ◌≤◌, Bool, cond, List, ◌++◌, length, drop, Ok, Err, vec_items, vec_len, Result, Vec, refl, ap, ◌∙◌}
 use Rattle.std.proofs.lemmas.List.{with_items_is, take_at}
 use Rattle.std.proofs.lemmas.Bool.{le-leb}
 use Rattle.std.specs.Vec.{with_items}

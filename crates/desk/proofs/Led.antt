@@ -1,8 +1,8 @@
 -- What a log tells is what stands on the desk: kept by every call.
-use Rattle.std.proofs.Common.{◌≡◌, ℕ, zero, suc, ◌+◌, ◌-◌, ◌<◌, ◌≤◌, Bool, true, false, cond, ◌⊎◌, List, [], ◌∷◌, ◌++◌, map, length, drop, Ok, Err, Result, sym, refl, ap, ◌∙◌, subst, inl, inr, arith}
+use Rattle.std.proofs.Common.{◌≡◌, ℕ, zero, suc, ◌+◌, ◌<◌, ◌≤◌, Bool, true, false, cond, ◌⊎◌, List, [], ◌∷◌, ◌++◌, map, length, drop, Ok, Err, Result, sym, refl, ap, ◌∙◌, subst, inl, inr, arith}
 use Rattle.std.specs.List.{AllByRecursion as All}
 use Rattle.std.proofs.ByRecursion.{All-push, All-weaker}
-use Rattle.std.proofs.lemmas.List.{length-append, length-map, map-append}
+use Rattle.std.proofs.lemmas.List.{length-append, map-append}
 use Rattle.std.proofs.lemmas.Bool.{false≢true}
 use Rattle.basis.specs.declared.refusal.Refusal.{Refusal}
 use Rattle.basis.specs.declared.refusal.Refusal.TheVariants.{SheetFull}
@@ -18,7 +18,7 @@ use Rattle.ctl.proofs.Places.{lines-read-back, lines_stay}
 use Rattle.ctl.proofs.Verdicts.{turn-rest}
 use Rattle.property.specs.Reading.{reading}
 use Rattle.property.specs.Syntax.{Syntax, property_of}
-use Rattle.sheet.specs.State.{State, Entered, emptied, advanced, finished, room_for, kept, after_reading}
+use Rattle.sheet.specs.State.{State, Entered, advanced, room_for, kept, after_reading}
 use Rattle.desk.specs.Calls.{Call, enter, advance, ask, count, show, clear, finish, reopen}
 use Rattle.desk.specs.Steps.{Standing, as_sheet, as_book, clean_desk, on_sheet, on_book, step_on, step, finishing}
 use Rattle.desk.specs.Past.{Past, Text, unbegun, property_in, with_text, with_event}

@@ -1,8 +1,8 @@
 -- One call more, at the end of a log.
-use Rattle.std.proofs.Common.{◌≡◌, List, [], ◌∷◌, ◌++◌, map, sym, refl, ap, ◌∙◌, subst, append_assoc, append-nil}
+use Rattle.std.proofs.Common.{◌≡◌, List, [], ◌∷◌, ◌++◌, sym, refl, ap, ◌∙◌, subst, append_assoc, append-nil}
 use Rattle.ctl.specs.Chart.{Meaning, Lawful}
 use Rattle.desk.specs.Calls.{Call, Event}
-use Rattle.desk.specs.Steps.{Standing, step, Session, begun, performed_from, performed, clean_desk}
+use Rattle.desk.specs.Steps.{Standing, step, Session, begun, performed_from, clean_desk}
 use Rattle.desk.specs.Promise.{Promise, LeadsTo}
 use Rattle.desk.proofs.Whole.{kept-promise}
 

@@ -1,11 +1,11 @@
 -- Every event at its place in the log: where the log before it leads, and that the event is the answer there.
 use Rattle.std.proofs.Common.{◌≡◌, ℕ, Bool, true, false, List, [], ◌∷◌, ◌++◌, map, sym, refl, ap, ◌∙◌, subst, arith}
 use Rattle.ctl.specs.Chart.{Meaning, Lawful}
-use Rattle.ctl.specs.Rounds.{Progress, after, rules_of, rounds_of}
+use Rattle.ctl.specs.Rounds.{Progress, after, rounds_of}
 use Rattle.ctl.specs.declared.rule.Rule.{Rule}
 use Rattle.sheet.specs.State.{State, with_entries}
 use Rattle.desk.specs.Calls.{Call, enter, advance, ask, count, show, clear, finish, reopen, Event, call_in}
-use Rattle.desk.specs.Steps.{Standing, Step, step_on, step, Session, begun, performed_from, performed}
+use Rattle.desk.specs.Steps.{Standing, step_on, step, performed_from}
 use Rattle.desk.specs.Past.{Past, with_event, past_from, standing_in}
 use Rattle.desk.specs.Promise.{Comes}
 use Rattle.desk.proofs.Led.{Led, step-led}

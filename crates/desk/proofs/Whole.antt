@@ -1,18 +1,18 @@
 -- The promise, over every succession of calls on every lawful chart.
-use Rattle.std.proofs.Common.{◌≡◌, ℕ, ◌+◌, ◌-◌, ◌*◌, ◌<◌, ◌≤◌, Bool, true, false, ◌⊎◌, List, [], ◌∷◌, ◌++◌, map, length, get_or, Ok, Err, Result, sym, refl, ap, ◌∙◌, subst, inl, inr, ⊎_elim, arith}
+use Rattle.std.proofs.Common.{◌≡◌, ℕ, ◌+◌, ◌*◌, ◌<◌, ◌≤◌, Bool, true, false, List, length, get_or, Ok, Err, Result, sym, refl, ap, ◌∙◌, subst, inl, inr, ⊎_elim, arith}
 use Rattle.std.specs.List.{AllByRecursion as All}
 use Rattle.std.proofs.ByRecursion.{All-weaker}
 use Rattle.std.proofs.lemmas.List.{length-map, get_or-map, get_or_past}
 use Rattle.std.proofs.lemmas.Bool.{cases_lt, false≢true}
 use Rattle.basis.specs.declared.refusal.Refusal.{Refusal}
-use Rattle.basis.specs.declared.refusal.Refusal.TheVariants.{SheetFull, NotSettled}
+use Rattle.basis.specs.declared.refusal.Refusal.TheVariants.{NotSettled}
 use Rattle.ctl.specs.Chart.{Meaning, Lawful, size}
-use Rattle.ctl.specs.Laws.{Sound, Tells, line_property}
+use Rattle.ctl.specs.Laws.{Tells, line_property}
 use Rattle.ctl.specs.Lines.{lines_of, form_of, no_rule}
-use Rattle.ctl.specs.Paths.{Shape, shape_of, Shown, shown}
+use Rattle.ctl.specs.Paths.{shape_of, Shown, shown}
 use Rattle.ctl.specs.PathLaws.{Answers, answer_at, shape_at, Showable}
 use Rattle.ctl.specs.Property.{normal}
-use Rattle.ctl.specs.Rounds.{Progress, Line, no_line, line_at, turns, made, after, bound, rules_of, rounds_of, plain_of, looping_of, verdict}
+use Rattle.ctl.specs.Rounds.{Progress, Line, no_line, line_at, turns, made, after, bound, rules_of, plain_of, looping_of}
 use Rattle.ctl.specs.Runs.{Holds}
 use Rattle.ctl.specs.declared.rule.Rule.{Rule}
 use Rattle.ctl.specs.declared.rule.Verdict.{Verdict}
@@ -28,14 +28,14 @@ use Rattle.sheet.specs.State as sheet
 use Rattle.sheet.specs.declared.work.Counts.{Counts}
 use Rattle.sheet.proofs.Sound.{told-holds, counts-bounded}
 use Rattle.desk.specs.Calls.{Call, enter, advance, ask, count, show, clear, finish, reopen}
-use Rattle.desk.specs.Calls.{Event, entered, advanced, asked, counted, showed, cleared, finished, reopened, barred, call_in}
+use Rattle.desk.specs.Calls.{Event, entered, advanced, asked, counted, showed, finished, barred, call_in}
 use Rattle.desk.specs.Steps.{Standing, step_on, step, performed, clean_desk, finishing}
-use Rattle.desk.specs.Past.{Past, Text, past, unbegun, property_of_text, standing_in}
+use Rattle.desk.specs.Past.{Past, Text, past, unbegun, property_of_text}
 use Rattle.desk.specs.Promise as promise
 use Rattle.desk.specs.Promise.{Comes, Paid, line_in, AnsweredIn, Witnessed, BorneOut, Lacks, Made, Promise}
 use Rattle.desk.proofs.Led.{Led, ReadsBack, clean-led}
 use Rattle.desk.proofs.Splits.{Found, found, calls-told, last-led, led-standing}
-use Rattle.desk.proofs.Answers.{asked-ok, Showed, showed-ok, not-settled, Accepts, Refuses, entered-ok, entered-err}
+use Rattle.desk.proofs.Answers.{asked-ok, showed-ok, not-settled, entered-ok, entered-err}
 
 -- the answer in an event
 ask-answer : (k : Bool) (μ : Meaning) (s : sheet.State) (i m : ℕ) (r : Result Verdict Refusal) → asked i m r ≡ (step_on k μ s (ask i m)).event → r ≡ sheet.asked μ s i m

@@ -4,7 +4,7 @@ use Rattle.basis.specs.declared.refusal.Refusal.TheVariants.{NoToken, Grammar, U
 use Rattle.ctl.specs.Chart.{Meaning, counter}
 use Rattle.ctl.specs.Meter.{meter}
 use Rattle.ctl.specs.declared.rule.Verdict.TheVariants.{Yes, No, Pending}
-use Rattle.desk.specs.Calls.{Call, enter, advance, clear, finish, reopen}
+use Rattle.desk.specs.Calls.{advance, clear, reopen}
 use Rattle.desk.specs.Calls.{Event, entered, advanced, asked, counted, showed, cleared, finished, reopened, barred, call_in}
 use Rattle.desk.specs.Steps.{performed}
 

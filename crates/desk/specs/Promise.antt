@@ -1,8 +1,8 @@
 -- The promise over a whole log: said of every event, at its place in the log, by what the log tells before it.
-use Rattle.std.specs.Prelude.{◌≡◌, ℕ, ◌+◌, ◌*◌, ◌<◌, ◌≤◌, Bool, true, false, ◌⊎◌, List, [], ◌∷◌, ◌++◌, map, length, Ok, Err, Result, slice_index, slice_index_or}
+use Rattle.std.specs.Prelude.{◌≡◌, ℕ, ◌+◌, ◌*◌, ◌<◌, ◌≤◌, Bool, true, false, ◌⊎◌, List, ◌∷◌, ◌++◌, map, length, Ok, Err, slice_index, slice_index_or}
 use Rattle.std.specs.List.{AllByRecursion as All}
 use Rattle.basis.specs.declared.refusal.Refusal.{Refusal}
-use Rattle.basis.specs.declared.refusal.Refusal.TheVariants.{SheetFull, NoSuchLine, NoSuchMode, NotSettled}
+use Rattle.basis.specs.declared.refusal.Refusal.TheVariants.{SheetFull, NotSettled}
 use Rattle.ctl.specs.Chart.{Meaning, size}
 use Rattle.ctl.specs.Laws.{Tells}
 use Rattle.ctl.specs.Lines.{lines_of, form_of, no_rule}
@@ -13,14 +13,14 @@ use Rattle.ctl.specs.Rounds.{bound, plain_of, looping_of, made, after}
 use Rattle.ctl.specs.Runs.{Holds}
 use Rattle.ctl.specs.declared.rule.Rule.{Rule}
 use Rattle.ctl.specs.declared.rule.Verdict.{Verdict}
-use Rattle.ctl.specs.declared.rule.Verdict.TheVariants.{Yes, No, Pending}
+use Rattle.ctl.specs.declared.rule.Verdict.TheVariants.{Pending}
 use Rattle.property.specs.Reading.{reading}
-use Rattle.property.specs.Syntax.{Syntax, property_of}
+use Rattle.property.specs.Syntax.{Syntax}
 use Rattle.sheet.specs.declared.work.Counts.{Counts}
 use Rattle.desk.specs.Calls.{Call, enter, advance, ask, count, show, clear, finish, reopen}
-use Rattle.desk.specs.Calls.{Event, entered, advanced, asked, counted, showed, cleared, finished, reopened, barred, call_in}
+use Rattle.desk.specs.Calls.{Event, entered, advanced, asked, counted, showed, finished, barred, call_in}
 use Rattle.desk.specs.Steps.{Standing, step, performed}
-use Rattle.desk.specs.Past.{Past, Text, past, property_of_text, standing_in}
+use Rattle.desk.specs.Past.{Past, past, property_of_text, standing_in}
 
 -- the event stands in the log behind those before it
 abbrev pub Comes : List Event → List Event → Event → Type 0

@@ -1,6 +1,6 @@
 -- Counting over the lines in use, one line after the other.
-use Rattle.std.proofs.Common.{◌≡◌, ℕ, ◌+◌, ◌-◌, ◌*◌, ◌<◌, ◌≤◌, Bool, true, false, cond, not, List, [], ◌∷◌, ◌++◌, map, length, get_or, take, sum_by, count_by, sym, refl, ap, ◌∙◌, mul-le-mul_right, arith}
-use Rattle.std.proofs.lemmas.List.{take_more, take_all, map_push, length-map}
+use Rattle.std.proofs.Common.{◌≡◌, ℕ, ◌+◌, ◌-◌, ◌*◌, ◌<◌, ◌≤◌, Bool, true, false, cond, not, List, [], ◌∷◌, ◌++◌, map, length, get_or, take, sum_by, sym, refl, ap, ◌∙◌, mul-le-mul_right, arith}
+use Rattle.std.proofs.lemmas.List.{take_more, map_push, length-map}
 use Rattle.std.proofs.lemmas.List.Sums.{sum_by_push, sum_by-cons}
 use Rattle.ctl.specs.Rounds as rounds
 use Rattle.ctl.specs.Rounds.{rounds_of, rules_of, looping_of, plain_of}

@@ -1,5 +1,5 @@
 -- Entering what was read: the lines written, the state after, and what every sheet keeps.
-use Rattle.std.proofs.Common.{◌≡◌, ℕ, ◌<◌, ◌≤◌, Bool, true, false, cond, ◌&&◌, ltb, leb, List, [], ◌∷◌, ◌++◌, map, length, take, drop, Ok, Err, vec_items, vec_len, Result, sym, refl, ap, ◌∙◌, subst, inl, inr, arith}
+use Rattle.std.proofs.Common.{◌≡◌, ℕ, ◌<◌, ◌≤◌, Bool, true, false, ltb, leb, List, [], ◌∷◌, ◌++◌, length, take, drop, Ok, Err, vec_items, Result, sym, refl, ap, ◌∙◌, subst, inl, inr, arith}
 use mathlib.Core.Logic.{∥∥₁_map}
 use Rattle.std.proofs.lemmas.List.{length-map, with_items_is}
 use Rattle.std.specs.Vec.{with_items}
@@ -12,17 +12,15 @@ use Rattle.ctl.specs.Lines.{Distinct, Ordered, Written, lines_of}
 use Rattle.ctl.specs.Property.{Form, normal}
 use Rattle.ctl.specs.Rounds as rounds
 use Rattle.ctl.specs.Rounds.{Progress, extended, rules_of}
-use Rattle.ctl.specs.declared.rule.Rule.{Rule}
 use Rattle.ctl.proofs.Steady.{rules-extended}
 use Rattle.ctl.proofs.Places.{lines_stay, lines-ordered-and-distinct}
 use Rattle.entry.specs.Entries.{Enters}
 use Rattle.property.specs.Reading.{outcome, parts_of}
 use Rattle.property.specs.Syntax.{Syntax, parts, property_of}
 use Rattle.property.specs.declared.shape.Part.{Part}
-use Rattle.rounds.specs.Held.{held_line, progress_of}
+use Rattle.rounds.specs.Held.{progress_of}
 use Rattle.rounds.specs.declared.line.Line.{Line}
 use Rattle.sheet.specs.State.{State, Entered, state_of, kept, after_reading}
-use Rattle.sheet.specs.Used.{rules_in}
 use Rattle.sheet.specs.declared.work.Work.{Work}
 use Rattle.sheet.proofs.Fronts.{lines-held, lines-used}
 

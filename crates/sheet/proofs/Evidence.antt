@@ -1,5 +1,5 @@
 -- A path that was shown bears out its answer over unending runs.
-use Rattle.std.proofs.Common.{◌≡◌, ℕ, ◌<◌, ◌≤◌, Bool, true, false, cond, ltb, leb, List, [], ◌∷◌, ◌++◌, length, take, drop, Ok, Err, Option, Result, sym, refl, ap, ◌∙◌, subst, inl, inr, arith}
+use Rattle.std.proofs.Common.{◌≡◌, ℕ, ◌<◌, ◌≤◌, true, leb, List, ◌++◌, length, take, drop, Ok, Err, Result, sym, refl, ap, ◌∙◌, subst, inl, inr, arith}
 use Rattle.std.proofs.lemmas.List.{take_at}
 use Rattle.std.proofs.lemmas.Bool.{cases_lt, cases_Bool, cond-true, cond-false, leb-true, le-leb}
 use Rattle.basis.specs.Lines.{overlaid}
@@ -8,7 +8,7 @@ use Rattle.basis.specs.declared.refusal.Refusal.TheVariants.{NoSuchPath, ShortPa
 use Rattle.ctl.specs.Chart.{Meaning, size}
 use Rattle.ctl.specs.Laws.{Sound}
 use Rattle.ctl.specs.PathLaws.{Showable, shape_at}
-use Rattle.ctl.specs.Paths.{Shape, none, step, reach, stay, Shown, shown}
+use Rattle.ctl.specs.Paths.{Shape, none, Shown, shown}
 use Rattle.ctl.specs.Rounds.{Progress}
 use Rattle.ctl.proofs.PathsLaws.{follow-ways, bear-out, are-shortest, fit-the-chart, take-first-ways}
 use Rattle.ctl.proofs.Settled.{settled-sets-are-fixpoints, settled-sets-hold}

@@ -1,8 +1,8 @@
 -- The lines in use are the front of the lines that are held.
-use Rattle.std.proofs.Common.{◌≡◌, ℕ, ◌-◌, ◌<◌, ◌≤◌, List, [], ◌∷◌, ◌++◌, length, get_or, take, drop, vec_items, vec_len, sym, refl, ap, ◌∙◌, append_assoc, arith}
+use Rattle.std.proofs.Common.{◌≡◌, ℕ, ◌-◌, ◌<◌, ◌≤◌, List, length, get_or, take, vec_items, sym, ap, ◌∙◌, arith}
 use Rattle.std.proofs.lemmas.List.{length-take-le, length-map, get_or-take}
 use Rattle.ctl.specs.Rounds as rounds
-use Rattle.rounds.specs.Held.{held_line, held_lines}
+use Rattle.rounds.specs.Held.{held_line}
 use Rattle.rounds.specs.declared.line.Line.{Line}
 use Rattle.rounds.proofs.Reading.{line-found}
 use Rattle.sheet.specs.State.{state_of}

@@ -1,5 +1,5 @@
 -- The rows of the report.
-use Rattle.std.proofs.Common.{◌≡◌, ℕ, ◌+◌, ◌<◌, ◌≤◌, Bool, true, false, cond, ltb, List, [], ◌∷◌, ◌++◌, map, length, get_or, take, vec_items, sym, refl, ap, ◌∙◌, arith}
+use Rattle.std.proofs.Common.{◌≡◌, ℕ, ◌+◌, ◌<◌, ◌≤◌, true, false, ltb, List, [], ◌∷◌, ◌++◌, length, get_or, take, vec_items, sym, ap, ◌∙◌, arith}
 use Rattle.std.proofs.lemmas.List.{get_or_past, length-map, map_more, length-take-le}
 use Rattle.std.proofs.lemmas.Bool.{ltb-true, ltb-false, lt-ltb, le-ltb}
 use Rattle.ctl.specs.Chart.{Meaning, size}
@@ -7,7 +7,7 @@ use Rattle.ctl.specs.Rounds as rounds
 use Rattle.ctl.specs.Rounds.{bound, line_at, no_line, rounds_of, rules_of, verdict}
 use Rattle.ctl.specs.declared.rule.Verdict.{Verdict}
 use Rattle.ctl.specs.declared.rule.Verdict.TheVariants.{No, Pending}
-use Rattle.report.specs.Reports.{Row, so_far, rowed, counted, total_line}
+use Rattle.report.specs.Reports.{so_far, rowed, counted, total_line}
 use Rattle.report.proofs.Rows.{a-row-extends-the-report, counted-below}
 use Rattle.rounds.specs.Held.{held_line, held_lines, progress_of}
 use Rattle.rounds.specs.declared.line.Line.{Line}

@@ -1,5 +1,5 @@
 -- What showing answers and leaves in the buffer, by its ways.
-use Rattle.std.proofs.Common.{◌≡◌, ℕ, ◌<◌, ◌≤◌, Bool, true, false, cond, ltb, leb, List, [], ◌∷◌, ◌++◌, length, drop, Ok, Err, Result, sym, refl, ap, ◌∙◌, inl, inr, arith}
+use Rattle.std.proofs.Common.{◌≡◌, ℕ, ◌<◌, ◌≤◌, cond, leb, List, [], ◌++◌, length, drop, Ok, Err, Result, sym, refl, ap, ◌∙◌, inl, inr, arith}
 use Rattle.std.proofs.lemmas.Bool.{lt-ltb, le-ltb, le-leb, cases_Bool, cond-true, cond-false}
 use Rattle.basis.specs.Lines.{overlaid}
 use Rattle.basis.specs.declared.refusal.Refusal.{Refusal}
@@ -9,7 +9,6 @@ use Rattle.ctl.specs.Paths.{Shape, none, step, reach, stay, shape_of, Shown, sho
 use Rattle.ctl.specs.Rounds.{Progress, Line, line_at}
 use Rattle.ctl.specs.Tests.{has}
 use Rattle.witness.specs.Showing as witness
-use Rattle.witness.specs.declared.scratch.Shown.{Shown as Told}
 use Rattle.sheet.specs.State.{State, showing, told, modes_of, has_path, fitted, borne_out}
 
 pub nothing-laid : (buffer : List ℕ) → overlaid [] buffer ≡ buffer

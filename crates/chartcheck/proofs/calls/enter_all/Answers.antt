@@ -1,4 +1,4 @@
-use Rattle.std.proofs.Common.{◌≡◌, ℕ, List, [], ◌∷◌, ◌++◌, map, get_or, vec_items, sym, refl, ap, ◌∙◌, Bor}
+use Rattle.std.proofs.Common.{ℕ, List, [], ◌∷◌, ◌++◌, map, get_or, vec_items, sym, refl, ap, ◌∙◌, Bor}
 use Rattle.std.proofs.lemmas.List.{map-append, take_all}
 use Rattle.std.proofs.lemmas.Slice.{pushed}
 use Rattle.desk.specs.Calls.{Call, enter, finish}

@@ -1,4 +1,4 @@
-use Rattle.std.proofs.Common.{◌≡◌, map, vec_items, ap, ◌∙◌}
+use Rattle.std.proofs.Common.{map, vec_items, ap, ◌∙◌}
 use Rattle.desk.specs.Promise.{LeadsTo}
 use Rattle.desk.specs.Told.{call_of, chart_of, event_of, standing_of, task_of}
 use Rattle.desk.proofs.Running.{leads-all, promised}

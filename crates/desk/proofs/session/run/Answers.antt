@@ -1,12 +1,10 @@
-use Rattle.std.proofs.Common.{◌≡◌, ◌+◌, ◌≤◌, List, [], ◌∷◌, ◌++◌, map, length, vec_items, vec_len, vec_capacity, sym, refl, ap, ◌∙◌, arith}
+use Rattle.std.proofs.Common.{◌≡◌, ◌+◌, ◌≤◌, List, [], ◌∷◌, ◌++◌, map, vec_items, vec_len, vec_capacity, sym, refl, ap, ◌∙◌, arith}
 use Rattle.std.proofs.lemmas.List.{map-append, nil_from_length}
 use Rattle.std.specs.Vec.Iter.{into_iter_items, into_iter_len}
-use Rattle.ctl.specs.Chart.{Meaning}
 use Rattle.desk.specs.Calls as told
 use Rattle.desk.specs.Steps.{performed_from}
 use Rattle.desk.specs.Told.{chart_of, event_of, standing_of, task_of}
 use Rattle.desk.specs.declared.calls.Event.{Event}
-use Rattle.desk.specs.declared.tasks.Task.{Task}
 use Rattle.desk.proofs.Running.{log-more, last_more, log-all, last-all}
 use Rattle.desk.proofs.session.run.Goals as goal
 

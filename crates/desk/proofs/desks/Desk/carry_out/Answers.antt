@@ -1,4 +1,4 @@
-use Rattle.std.proofs.Common.{◌≡◌, List, [], ◌∷◌, ◌++◌, sym, ap, subst}
+use Rattle.std.proofs.Common.{[], ◌∷◌, ◌++◌, sym, ap, subst}
 use Rattle.ctl.specs.Chart.{Meaning}
 use Rattle.desk.specs.Promise.{LeadsTo}
 use Rattle.desk.specs.Told.{chart_of, event_of, standing_of, task_of}

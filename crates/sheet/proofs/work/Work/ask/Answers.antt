@@ -1,5 +1,4 @@
-use Rattle.std.proofs.Common.{◌≡◌, ℕ, ◌<◌, ◌≤◌, length, vec_items, sym, ap, ◌∙◌, arith}
-use Rattle.ctl.specs.Chart.{size}
+use Rattle.std.proofs.Common.{arith}
 use Rattle.rounds.specs.Held.{held_line}
 use Rattle.sheet.specs.State.{state_of}
 use Rattle.sheet.proofs.Fronts.{lines-used, line-used}

@@ -1,20 +1,15 @@
-use Rattle.std.proofs.Common.{◌≡◌, ℕ, ◌<◌, ◌≤◌, List, [], ◌∷◌, ◌++◌, length, take, vec_items, vec_len, Result, sym, refl, ap, ◌∙◌, subst, arith}
-use Rattle.std.proofs.lemmas.List.{with_items_is}
+use Rattle.std.proofs.Common.{◌≡◌, ℕ, ◌<◌, ◌≤◌, List, [], ◌∷◌, ◌++◌, length, take, vec_items, sym, ap, ◌∙◌, subst, arith}
 use Rattle.std.specs.Vec.{with_items}
-use Rattle.basis.specs.declared.refusal.Refusal.{Refusal}
-use Rattle.ctl.specs.Chart.{Meaning}
 use Rattle.ctl.specs.Lines.{Distinct, Ordered}
-use Rattle.ctl.specs.Rounds.{Progress, rules_of}
+use Rattle.ctl.specs.Rounds.{rules_of}
 use Rattle.ctl.specs.declared.rule.Rule.{Rule}
 use Rattle.property.specs.Reading.{reading}
-use Rattle.property.specs.Syntax.{Syntax}
 use Rattle.property.specs.declared.shape.Part.{Part}
 use Rattle.rounds.specs.Held.{progress_of}
 use Rattle.rounds.specs.declared.line.Line.{Line}
-use Rattle.sheet.specs.State.{State, Entered, after_reading, state_of, with_entries}
+use Rattle.sheet.specs.State.{Entered, after_reading, state_of, with_entries}
 use Rattle.sheet.specs.Used.{rules_in}
-use Rattle.sheet.specs.declared.work.Work.{Work}
-use Rattle.sheet.proofs.Entered.{Entering, entering, full-after, full-few, full-kept, room-few, room-ordered, room_apart, room-kept, came-back}
+use Rattle.sheet.proofs.Entered.{entering, full-after, full-few, full-kept, room-few, room-ordered, room_apart, room-kept, came-back}
 use Rattle.sheet.proofs.work.Work.enter.Goals as goal
 
 pub invariant_of-self-in-Err-1 : goal.invariant_of-self-in-Err-1

@@ -1,12 +1,10 @@
-use Rattle.std.proofs.Common.{◌≡◌, ℕ, ◌-◌, ◌<◌, ◌≤◌, List, length, take, vec_items, Result, sym, refl, ap, ◌∙◌, arith}
+use Rattle.std.proofs.Common.{List, length, Result, sym, refl, ap, ◌∙◌, arith}
 use Rattle.std.proofs.lemmas.Bool.{leb-true, leb-false}
 use Rattle.basis.specs.Lines.{overlaid}
 use Rattle.basis.specs.declared.refusal.Refusal.{Refusal}
 use Rattle.basis.specs.declared.refusal.Refusal.TheVariants.{NoSuchLine, NoSuchMode, NotSettled}
-use Rattle.ctl.specs.Chart.{size}
 use Rattle.ctl.specs.Paths.{Shown, shown}
-use Rattle.ctl.specs.Rounds.{Progress}
-use Rattle.rounds.specs.Held.{held_lines, progress_of}
+use Rattle.rounds.specs.Held.{progress_of}
 use Rattle.rounds.specs.declared.line.Line.{Line}
 use Rattle.witness.specs.Showing as witness
 use Rattle.sheet.specs.State.{showing, state_of, told, modes_of}
