@@ -17,13 +17,14 @@ const FILE_BYTES: usize = 5133;
 // The most that is read of standard input.
 const INPUT_BYTES: usize = 16384;
 
-// More than the longest report has, which is a first and a last line and one for each of 32 entries.
+// More than the longest report has, which is a first and a last line and one for each of 32 entries: 3,400 bytes at most.
 const OUT_BYTES: usize = 4096;
 
 fn main(rt: HostRuntime) -> io::Result<()> {
     let mut file = [0; FILE_BYTES];
     let mut input = [0; INPUT_BYTES];
     let mut out = [0; OUT_BYTES];
+    prove!(out.len() >= 3400);
     let filed = read_chart_file(&rt, &mut file)?;
     let typed = fill(&mut rt.stdin(), &mut input)?;
     match tell(rt.alloc(), &file[0..filed], &input[0..typed], &mut out) {

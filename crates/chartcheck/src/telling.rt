@@ -1,5 +1,5 @@
 // What the program prints.
-ghost use Rattle.std.specs.Prelude.{◌≡◌, ◌≤◌, ◌⊎◌, map, length, IfOk, Some, None, MatchResult};
+ghost use Rattle.std.specs.Prelude.{◌≡◌, ◌≤◌, ◌⊎◌, true, map, length, is_ok, IfOk, Some, None, MatchResult};
 ghost use Rattle.basis.specs.Lines.{answered, overlaid};
 ghost use Rattle.basis.specs.declared.refusal.Refusal.TheVariants.{Memory};
 ghost use Rattle.chart.specs.Files.{fault, file_chart};
@@ -36,8 +36,9 @@ fn first_refusal(log: &[Event<'_>]) -> Option<Refusal>
     None
 }
 
-// The report of a book; a sheet has none.
+// The report of a book; a sheet has none. A buffer of 3,400 bytes holds every report.
 fn put_report(desk: Desk<FiledChart>, out: &mut [u8]) -> Result<usize, Refusal>
+    ensures whole { 3400 ≤ length out.old → is_ok result ≡ true }
     ensures answer { result ≡ answered (report_in (meaning_of (chart_of desk)) (standing_of desk)) (length out.old) }
     ensures buffer { out.new ≡ overlaid (report_in (meaning_of (chart_of desk)) (standing_of desk)) out.old }
 {
