@@ -92,8 +92,11 @@ def main():
 
     for path in files(".antt"):
         text = read(path)
+        # a word of the library goes by its own name
+        if "{AllByRecursion as All}" in text:
+            text = re.sub(r"(?<![\w'-])All(?![\w'-])", "AllByRecursion", text.replace("{AllByRecursion as All}", "{AllByRecursion}"))
         done = swap(text)
-        if done != text:
+        if done != read(path):
             with open(path, "w", encoding="utf-8") as f:
                 f.write(done)
     for path in files(".rt"):

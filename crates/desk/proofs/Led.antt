@@ -1,6 +1,6 @@
 -- What a log tells is what stands on the desk: kept by every call.
 use Rattle.std.proofs.Common.{◌≡◌, ℕ, zero, suc, ◌+◌, ◌<◌, ◌≤◌, Bool, true, false, cond, ◌⊎◌, List, [], ◌∷◌, ◌++◌, map, length, drop, Ok, Err, Result, sym, refl, ap, ◌∙◌, subst, inl, inr, arith}
-use Rattle.std.specs.List.{AllByRecursion as All}
+use Rattle.std.specs.List.{AllByRecursion}
 use Rattle.std.proofs.ByRecursion.{All-push, All-weaker}
 use Rattle.std.proofs.lemmas.List.{length-append, map-append}
 use Rattle.std.proofs.lemmas.Bool.{false≢true}
@@ -43,7 +43,7 @@ pub record Led (μ : Meaning) (b : Past) (d : Standing) : Type 0 where
   pub rules : rules_of d.state.progress ≡ b.rules
   pub rounds : rounds_of d.state.progress ≡ b.rounds
   pub entries : d.state.entries ≡ map (λ x. x.line) b.texts
-  pub texts : All (ReadsBack b.rules) b.texts
+  pub texts : AllByRecursion (ReadsBack b.rules) b.texts
   pub funded : Funded μ b d.state.progress
 
 pub clean-led : (μ : Meaning) → Lawful μ → Led μ unbegun clean_desk

@@ -1,6 +1,6 @@
 -- The promise, over every succession of calls on every lawful chart.
 use Rattle.std.proofs.Common.{◌≡◌, ℕ, ◌+◌, ◌*◌, ◌<◌, ◌≤◌, Bool, true, false, List, length, get_or, Ok, Err, Result, sym, refl, ap, ◌∙◌, subst, inl, inr, ⊎_elim, arith}
-use Rattle.std.specs.List.{AllByRecursion as All}
+use Rattle.std.specs.List.{AllByRecursion}
 use Rattle.std.proofs.ByRecursion.{All-weaker}
 use Rattle.std.proofs.lemmas.List.{length-map, get_or-map, get_or_past}
 use Rattle.std.proofs.lemmas.Bool.{cases_lt, false≢true}
@@ -121,7 +121,7 @@ module _ (μ : Meaning) (b : Past) (d : Standing) (h : Led μ b d) where
       omega (arith, n, a, x, y, z)
 
   verdict-right : (i m : ℕ) (v : Verdict) → asked i m (Ok v) ≡ (step μ d (ask i m)).event
-      → Tells v (Holds μ (line_in b.rules i) m) × All (λ x. x.line ≡ i → Tells v (Holds μ x.property m)) b.texts
+      → Tells v (Holds μ (line_in b.rules i) m) × AllByRecursion (λ x. x.line ≡ i → Tells v (Holds μ x.property m)) b.texts
   verdict-right i m v e =
       let r = ask-answer d.book μ s i m (Ok v) e in
       let k = asked-ok μ s i m v r in (

@@ -1,6 +1,6 @@
 -- The promise over a whole log: said of every event, at its place in the log, by what the log tells before it.
 use Rattle.std.specs.Prelude.{◌≡◌, ℕ, ◌+◌, ◌*◌, ◌<◌, ◌≤◌, Bool, true, false, ◌⊎◌, List, ◌∷◌, ◌++◌, map, length, Ok, Err, slice_index, slice_index_or}
-use Rattle.std.specs.List.{AllByRecursion as All}
+use Rattle.std.specs.List.{AllByRecursion}
 use Rattle.basis.specs.declared.refusal.Refusal.{Refusal}
 use Rattle.basis.specs.declared.refusal.Refusal.TheVariants.{SheetFull, NotSettled}
 use Rattle.ctl.specs.Chart.{Meaning, size}
@@ -36,7 +36,7 @@ abbrev pub VerdictsAreRight : Meaning → List Event → Type 0
 VerdictsAreRight μ log =
     (before : List Event) (i m : ℕ) (v : Verdict)
     → Comes log before (asked i m (Ok v))
-    → Tells v (Holds μ (line_in (past μ before).rules i) m) × All (λ x. x.line ≡ i → Tells v (Holds μ x.property m)) (past μ before).texts
+    → Tells v (Holds μ (line_in (past μ before).rules i) m) × AllByRecursion (λ x. x.line ≡ i → Tells v (Holds μ x.property m)) (past μ before).texts
 
 -- a count has the rounds made since the last clearing and the lines written since; the rounds are at most one for
 -- each plain line and one more than there are modes for each looping one
