@@ -1,6 +1,8 @@
 -- What a stack over a slice holds after one more element, and how its newest is read.
-use Rattle.std.proofs.Common.{◌≡◌, ℕ, ◌+◌, ◌-◌, ◌<◌, ◌≤◌, List, [], ◌∷◌, reverse, length, get_or, take, set, Some, None, Option, sym, refl, ap, ◌∙◌, inl, inr, arith}
+use Rattle.std.proofs.Common.{slice_get, ◌≡◌, ℕ, ◌+◌, ◌-◌, ◌<◌, ◌≤◌, List, [], ◌∷◌, reverse, length, get_or, take, set, Some, None, Option, sym, refl, ap, ◌∙◌, inl, inr, arith}
 use Rattle.std.proofs.lemmas.List.{take_more, take_more_set, reverse-append, length-reverse, length-take-le}
+use Rattle.std.proofs.lemmas.Option.{slice_get-get_or}
+use Rattle.std.proofs.lemmas.List.{get_or-take}
 use Rattle.std.proofs.lemmas.Bool.{cases_eq}
 use Rattle.basis.specs.Stacks.{held, newest, older}
 
@@ -38,13 +40,20 @@ newest-some n xs d ne h = sym (ap newest (held_back n xs d ne h))
 pub older-some : {X : Type 0} (n : ℕ) (xs : List X) (d : X) → (n ≡ 0 → ⊥) → n ≤ length xs → held (n - 1) xs ≡ older (held n xs)
 older-some n xs d ne h = sym (ap older (held_back n xs d ne h))
 
+abbrev last_among : {X : Type 0} → List X → ℕ → Option X
+last_among xs n = slice_get (take n xs) (length (take n xs) - 1)
+
 -- the last of the first n, if there is one
-pub newest-by :
-    {X : Type 0} (n : ℕ) (xs : List X) (r : Option X) → n ≤ length xs → (n ≡ 0 → r ≡ None)
-    → ((n ≡ 0 → ⊥) → (d : X) → r ≡ Some (get_or xs (n - 1) d)) → r ≡ newest (held n xs)
-newest-by n [] r h a b = let e : n ≡ 0 = omega arith in a e ∙ newest-none n [] e
-newest-by n (x ∷ xs) r h a b =
+pub newest-last : {X : Type 0} (n : ℕ) (xs : List X) → n ≤ length xs → slice_get (take n xs) (length (take n xs) - 1) ≡ newest (held n xs)
+newest-last n [] h =
+    let e : n ≡ 0 = omega arith in
+    ap (last_among []) e ∙ newest-none n [] e
+newest-last n (x ∷ xs) h =
+    let long = length-take-le n (x ∷ xs) h in
     elim (cases_eq n 0) [
-      | inl e ↦ a e ∙ newest-none n (x ∷ xs) e
-      | inr e ↦ b e x ∙ newest-some n (x ∷ xs) x e h
+      | inl e ↦ ap (last_among (x ∷ xs)) e ∙ newest-none n (x ∷ xs) e
+      | inr e ↦
+          slice_get-get_or (take n (x ∷ xs)) (length (take n (x ∷ xs)) - 1) x (omega arith)
+          ∙ ap Some (ap (λ m. get_or (take n (x ∷ xs)) (m - 1) x) long ∙ get_or-take n (x ∷ xs) (n - 1) x (omega arith))
+          ∙ newest-some n (x ∷ xs) x e h
     ]

@@ -40,5 +40,9 @@ abbrev pub at_value : Option ℕ → List ℕ
 at_value None = []
 at_value (Some v) = codes " at " ++ decimal v
 
+-- without its line end
+abbrev pub refusal_text : Refusal → List ℕ
+refusal_text e = codes "refused " ++ (decimal (number_of e) ++ at_value (value_of e))
+
 abbrev pub refusal_line : Refusal → List ℕ
 refusal_line e = codes "refused " ++ (decimal (number_of e) ++ (at_value (value_of e) ++ (10 ∷ [])))

@@ -4,6 +4,7 @@ ghost use Rattle.std.specs.Prelude.{◌≡◌, ◌+◌, ◌<◌, ◌≤◌, leng
 ghost use Rattle.basis.specs.Lines.{laid, line_of, overlaid, representable, spelling, written};
 
 use super::refusal::Refusal;
+use itoa::Buffer;
 
 #[derive(Clone, Copy)]
 pub enum Piece<'a> {
@@ -48,7 +49,7 @@ fn piece_length(piece: Piece<'_>) -> usize
 {
     match piece {
         Piece::Text(text) => text.len(),
-        Piece::Number(n) => figure_count(n),
+        Piece::Number(n) => Buffer::new().format(n).len(),
     }
 }
 
@@ -60,7 +61,7 @@ fn put_piece(out: &mut [u8], at: usize, piece: Piece<'_>) -> usize
 {
     match piece {
         Piece::Text(text) => put_text(out, at, text),
-        Piece::Number(n) => put_number(out, at, n),
+        Piece::Number(n) => put_text(out, at, Buffer::new().format(n).as_bytes()),
     }
 }
 
@@ -72,42 +73,4 @@ fn put_text(out: &mut [u8], at: usize, text: &[u8]) -> usize
     let end = at + text.len();
     out[at..end].copy_from_slice(text);
     end
-}
-
-fn figure_count(n: usize) -> usize
-    ensures { result ≡ length (decimal n) }
-{
-    let mut count = 1;
-    let mut rest = n;
-    while rest >= 10 {
-        rest /= 10;
-        count += 1;
-    }
-    count
-}
-
-// From the units leftward.
-fn put_number(out: &mut [u8], at: usize, n: usize) -> usize
-    requires { at + length (decimal n) ≤ length out.old }
-    ensures place { result ≡ at + length (decimal n) }
-    ensures buffer { out.new ≡ laid at (decimal n) out.old }
-{
-    let end = at + figure_count(n);
-    let mut place = end - 1;
-    let mut rest = n;
-    while rest >= 10 {
-        out[place] = figure(rest % 10);
-        rest /= 10;
-        place -= 1;
-    }
-    out[place] = figure(rest);
-    end
-}
-
-// The byte of a single figure.
-fn figure(digit: usize) -> u8
-    requires { digit < 10 }
-    ensures { result ≡ 48 + digit }
-{
-    b'0' + digit as u8
 }

@@ -1,10 +1,14 @@
 // A call answers a result or one of these refusals; a refusal changes nothing.
 // `specs/Refusals.antt` maps each case to its number and to the value returned with it.
-ghost use Rattle.basis.specs.Lines.{answered, overlaid, refusal_line};
+ghost use Rattle.basis.specs.Lines.{answered, overlaid, refusal_line, refusal_text};
 ghost use Rattle.basis.specs.Refusals.{number_of, value_of};
-ghost use Rattle.std.specs.Prelude.{◌≡◌, ◌≤◌, length, IfOk};
+ghost use Rattle.basis.specs.declared.refusal.Refusal.TheVariants.{Memory};
+ghost use Rattle.std.specs.Prelude.{◌≡◌, ◌≤◌, length, IfOk, Some};
 
 use super::line::{Piece, put_line};
+use std::alloc::AllocError;
+use std::error::Error;
+use std::fmt;
 
 #[derive(Clone, Copy, PartialEq, Eq, Debug)]
 pub enum Refusal {
@@ -115,5 +119,27 @@ impl Refusal {
                 put_line(out, &pieces)
             }
         }
+    }
+}
+
+// The refusal's line without its line end.
+impl fmt::Display for Refusal {
+    ghost output = { λ e. Some (refusal_text e) };
+
+    fn fmt<W: fmt::Write>(&self, f: &mut fmt::Formatter<W>) -> fmt::Result {
+        match self.value() {
+            None => write!(f, "refused {}", self.number()),
+            Some(value) => write!(f, "refused {} at {value}", self.number()),
+        }
+    }
+}
+
+impl Error for Refusal {}
+
+impl From<AllocError> for Refusal {
+    ghost from_gives = { λ _ e. e ≡ Memory };
+
+    fn from(_error: AllocError) -> Refusal {
+        Self::Memory
     }
 }

@@ -1,5 +1,5 @@
 // A stack over a slice that its owner lends: one struct for every kind of element.
-ghost use Rattle.std.specs.Prelude.{◌≡◌, ℕ, ◌+◌, ◌-◌, ◌<◌, ◌≤◌, [], ◌∷◌, length, if◌then◌else◌, Some, None, Ok, Err, ◌≢◌, nat_lt, slice_index_or, slice_set};
+ghost use Rattle.std.specs.Prelude.{◌≡◌, ℕ, ◌+◌, ◌-◌, ◌<◌, ◌≤◌, [], ◌∷◌, length, take, if◌then◌else◌, Some, None, Ok, Err, ◌≢◌, nat_lt, slice_set};
 ghost use Rattle.basis.specs.Stacks.{held, newest, older};
 
 #[derive(Drop)]
@@ -29,12 +29,18 @@ impl<'a, T: Copy> Stack<'a, T> {
         Stack { slots, count: 0 }
     }
 
+    // The elements that are held, the oldest first.
+    fn elements(&self) -> &[T]
+        ensures { result.now ≡ take self.now.count self.now.slots.now }
+    {
+        &self.slots[..self.count]
+    }
+
     // How many elements are held.
     pub fn len(&self) -> usize
         ensures { result ≡ self.now.count }
     {
-        let Stack { count, .. } = self;
-        *count
+        self.elements().len()
     }
 
     // Puts one element on top; a full stack hands it back and stays as it was.
@@ -94,18 +100,6 @@ impl<'a, T: Copy> Stack<'a, T> {
     pub fn top(&self) -> Option<T>
         ensures { result ≡ newest (held self.now.count self.now.slots.now) }
     {
-        last_of(self.slots, self.count)
+        self.elements().last().copied()
     }
-}
-
-// The last of the first `count` elements.
-fn last_of<T: Copy>(slots: &[T], count: usize) -> Option<T>
-    requires { count ≤ length slots.now }
-    ensures none { count ≡ 0 → result ≡ None }
-    ensures some { (count ≢ 0) → (d : T) → result ≡ Some (slice_index_or slots.now (count - 1) d) }
-{
-    if count == 0 {
-        return None;
-    }
-    Some(slots[count - 1])
 }

@@ -1,6 +1,7 @@
 // Refusal lines in full, short buffers among them.
 use super::*;
 use std::process::Abort;
+use std::test::Fail;
 
 fn line_is(
     rt: &impl Abort,
@@ -57,4 +58,33 @@ fn refusal_lines(rt: HostRuntime) {
         Err(Refusal::ShortBuffer(35)),
         b"..",
     );
+}
+
+#[test]
+fn refusals_print_as_their_lines(rt: HostRuntime) -> Result<(), Fail> {
+    let text = format!(in rt.alloc(); "{}", Refusal::Grammar(4))?;
+    assert_eq!(rt; text.as_str(), "refused 13 at 4");
+    Ok(())
+}
+
+// Room for three: a fourth comes back, and the newest is taken off first.
+#[test]
+fn room_is_taken_once(rt: HostRuntime) -> Result<(), Fail> {
+    let mut kept: Reserved<u16, 3> = Reserved::new(rt.alloc())?;
+    assert_eq!(rt; kept.push(7), Ok(()));
+    assert_eq!(rt; kept.push(8), Ok(()));
+    assert_eq!(rt; kept.push(9), Ok(()));
+    assert_eq!(rt; kept.push(10), Err(10));
+    assert!(rt; *kept.as_slice() == *[7, 8, 9].as_slice());
+    assert_eq!(rt; kept.pop(), Some(9));
+    kept.set(0, 5);
+    kept.set(2, 6);
+    assert!(rt; *kept.as_slice() == *[5, 8].as_slice());
+    kept.truncate(1);
+    assert_eq!(rt; kept.len(), 1);
+    kept.fill(4, 2);
+    assert!(rt; *kept.as_slice() == *[2, 2, 2].as_slice());
+    kept.clear();
+    assert_eq!(rt; kept.pop(), None);
+    Ok(())
 }

@@ -1,6 +1,6 @@
-use Rattle.basis.proofs.Stacked.{newest-by}
+use Rattle.basis.proofs.Stacked.{newest-last}
+use Rattle.std.proofs.Common.{rules}
 use Rattle.basis.proofs.stack.Stack.top.Goals as goal
 
 pub returns : goal.returns
-returns g c =
-    newest-by _ _ _ c.args.self.now.within c.last_of.ensures.none c.last_of.ensures.some
+returns g c = search (rules, newest-last c.args.self.now.count c.args.self.now.slots.now c.args.self.now.within)
