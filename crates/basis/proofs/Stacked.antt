@@ -44,11 +44,11 @@ abbrev last_among : {X : Type 0} → List X → ℕ → Option X
 last_among xs n = slice_get (take n xs) (length (take n xs) - 1)
 
 -- the last of the first n, if there is one
-pub newest-last : {X : Type 0} (n : ℕ) (xs : List X) → n ≤ length xs → slice_get (take n xs) (length (take n xs) - 1) ≡ newest (held n xs)
-newest-last n [] h =
+pub newest_last : {X : Type 0} (n : ℕ) (xs : List X) → n ≤ length xs → slice_get (take n xs) (length (take n xs) - 1) ≡ newest (held n xs)
+newest_last n [] h =
     let e : n ≡ 0 = omega arith in
     ap (last_among []) e ∙ newest-none n [] e
-newest-last n (x ∷ xs) h =
+newest_last n (x ∷ xs) h =
     let long = length-take-le n (x ∷ xs) h in
     elim (cases_eq n 0) [
       | inl e ↦ ap (last_among (x ∷ xs)) e ∙ newest-none n (x ∷ xs) e

@@ -11,17 +11,9 @@ pub struct Stack<'a, T> {
 
 impl<'a, T: Copy> Stack<'a, T> {
     // An empty stack with as much room as the slice has elements.
+    #[tactic(auto, using(crate::proofs::Stacked::held_none))]
     pub fn new(slots: &'a mut [T]) -> Stack<'a, T>
         ensures holds { held result.count result.slots.now ≡ [] }
-        ensures count { result.count ≡ 0 }
-        ensures slots { result.slots.now ≡ slots.old }
-        ensures lender { result.slots.ghost_name ≡ slots.entry.ghost_name }
-    {
-        Stack::without_elements(slots)
-    }
-
-    // All of the slice is room.
-    fn without_elements(slots: &'a mut [T]) -> Stack<'a, T>
         ensures count { result.count ≡ 0 }
         ensures slots { result.slots.now ≡ slots.old }
         ensures lender { result.slots.ghost_name ≡ slots.entry.ghost_name }
@@ -97,6 +89,7 @@ impl<'a, T: Copy> Stack<'a, T> {
     }
 
     // The newest element, which stays.
+    #[tactic(auto, using(crate::proofs::Stacked::newest_last))]
     pub fn top(&self) -> Option<T>
         ensures { result ≡ newest (held self.now.count self.now.slots.now) }
     {
