@@ -1,11 +1,28 @@
 -- Bytes laid over a buffer, one after another.
-use Rattle.std.proofs.Common.{◌≡◌, ℕ, ◌+◌, ◌<◌, ◌≤◌, List, [], ◌∷◌, ◌++◌, length, take, drop, set, sym, ap, ◌∙◌, append_assoc, add-one, arith, length-append}
-use borrow.Rule.Slice.PartMut.{put_mid}
-use Rattle.std.proofs.lemmas.List.{drop-drop, take_at, drop_at, length-take-le, set_split}
+use Rattle.std.proofs.Common.{◌≡◌, ℕ, ◌+◌, ◌-◌, ◌<◌, ◌≤◌, List, [], ◌∷◌, ◌++◌, length, take, drop, set, sym, ap, ◌∙◌, append_assoc, length-drop, add-one, arith, length-append}
+use borrow.Rule.Slice.PartMut.{put_mid, mid_of}
+use Rattle.std.proofs.lemmas.List.{take_all, drop_all, append-nil, drop-drop, take_at, drop_at, length-take-le, set_split}
 use Rattle.basis.specs.Lines.{laid}
 
 pub put_mid-laid : (a k : ℕ) (xs ys : List ℕ) → k ≡ length ys → put_mid a k xs ys ≡ laid a ys xs
 put_mid-laid a k xs ys e = ap (λ t. take a xs ++ (ys ++ t)) (drop-drop k a xs ∙ ap (λ m. drop (a + m) xs) e)
+
+-- laid over the part from a place on
+pub laid-part :
+    (a k : ℕ) (bytes buf part : List ℕ) → k ≡ length buf - a → a + length bytes ≤ length buf → part ≡ bytes ++ drop (length bytes) (mid_of a k buf)
+    → put_mid a k buf part ≡ laid a bytes buf
+laid-part a k bytes buf part e h p =
+    let rest : List ℕ = drop a buf in
+    let long : length rest ≡ k = length-drop a buf ∙ sym e in
+    let whole : mid_of a k buf ≡ rest = take_all k rest (omega arith) in
+    let back : drop (length bytes) (mid_of a k buf) ≡ drop (a + length bytes) buf =
+    ap (drop (length bytes)) whole ∙ drop-drop (length bytes) a buf
+    in
+    let none : drop k rest ≡ [] = drop_all k rest (omega arith) in
+    ap (λ t. take a buf ++ (t ++ drop k rest)) p
+    ∙ (ap (λ t. take a buf ++ ((bytes ++ drop (length bytes) (mid_of a k buf)) ++ t)) none
+    ∙ (ap (λ t. take a buf ++ t) (append-nil (bytes ++ drop (length bytes) (mid_of a k buf)))
+    ∙ ap (λ t. take a buf ++ (bytes ++ t)) back))
 
 pub laid_one : (buf : List ℕ) (i y : ℕ) → i < length buf → set buf i y ≡ laid i (y ∷ []) buf
 laid_one buf i y h = set_split buf i y h ∙ ap (λ m. take i buf ++ (y ∷ drop m buf)) (sym (add-one i))

@@ -1,7 +1,7 @@
 // A line of text is a row of pieces and a line end. It is written into a caller's buffer whole or not at all.
 // `specs/Lines.antt` says which bytes a line has and what the buffer holds after it.
-ghost use Rattle.std.specs.Prelude.{◌≡◌, ◌+◌, ◌<◌, ◌≤◌, length, IfOk, decimal};
-ghost use Rattle.basis.specs.Lines.{laid, line_of, overlaid, representable, spelling, written};
+ghost use Rattle.std.specs.Prelude.{◌≡◌, ◌+◌, ◌<◌, ◌≤◌, ◌++◌, length, drop, IfOk, decimal};
+ghost use Rattle.basis.specs.Lines.{line_of, overlaid, representable, spelling, written};
 
 use super::refusal::Refusal;
 use itoa::Buffer;
@@ -38,7 +38,7 @@ pub fn put_line(out: &mut [u8], pieces: &[Piece<'_>]) -> Result<usize, Refusal>
     }
     let mut at = 0;
     for piece in pieces {
-        at = put_piece(out, at, *piece);
+        at += put_piece(&mut out[at..], *piece);
     }
     out[at] = b'\n';
     Ok(needed)
@@ -53,24 +53,23 @@ fn piece_length(piece: Piece<'_>) -> usize
     }
 }
 
-// The place after the piece.
-fn put_piece(out: &mut [u8], at: usize, piece: Piece<'_>) -> usize
-    requires { at + length (spelling piece) ≤ length out.old }
-    ensures place { result ≡ at + length (spelling piece.entry) }
-    ensures buffer { out.new ≡ laid at (spelling piece.entry) out.old }
+// Lays the piece into `out` from its beginning and answers its length.
+fn put_piece(out: &mut [u8], piece: Piece<'_>) -> usize
+    requires { length (spelling piece) ≤ length out.old }
+    ensures count { result ≡ length (spelling piece.entry) }
+    ensures buffer { out.new ≡ spelling piece.entry ++ drop (length (spelling piece.entry)) out.old }
 {
     match piece {
-        Piece::Text(text) => put_text(out, at, text),
-        Piece::Number(n) => put_text(out, at, Buffer::new().format(n).as_bytes()),
+        Piece::Text(text) => put_text(out, text),
+        Piece::Number(n) => put_text(out, Buffer::new().format(n).as_bytes()),
     }
 }
 
-fn put_text(out: &mut [u8], at: usize, text: &[u8]) -> usize
-    requires { at + length text.now ≤ length out.old }
-    ensures place { result ≡ at + length text.now }
-    ensures buffer { out.new ≡ laid at text.now out.old }
+fn put_text(out: &mut [u8], text: &[u8]) -> usize
+    requires { length text.now ≤ length out.old }
+    ensures count { result ≡ length text.now }
+    ensures buffer { out.new ≡ text.now ++ drop (length text.now) out.old }
 {
-    let end = at + text.len();
-    out[at..end].copy_from_slice(text);
-    end
+    out[..text.len()].copy_from_slice(text);
+    text.len()
 }

@@ -1,4 +1,5 @@
-// A stack over a slice that its owner lends: one struct for every kind of element.
+// A stack over a slice that its owner lends: one struct for every kind of element. That the owner has its slice back
+// only the slice's name can say, so each call has a clause `lender`.
 ghost use Rattle.std.specs.Prelude.{◌≡◌, ℕ, ◌+◌, ◌-◌, ◌<◌, ◌≤◌, [], ◌∷◌, length, take, if◌then◌else◌, Some, None, Ok, Err, ◌≢◌, nat_lt, slice_set};
 ghost use Rattle.basis.specs.Stacks.{held, newest, older};
 
