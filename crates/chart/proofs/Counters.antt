@@ -1,5 +1,5 @@
 -- The questions of a counter answer its meaning.
-use Rattle.std.proofs.Common.{◌≡◌, ℕ, zero, suc, ◌+◌, ◌<◌, ◌≤◌, Bool, true, false, cond, eqb, [], ◌∷◌, length, get_or, None, sym, refl, ap, ◌∙◌, ⊎_elim, arith}
+use Rattle.std.proofs.Common.{◌≡◌, ℕ, zero, suc, ◌+◌, ◌<◌, ◌≤◌, Bool, true, false, cond, eqb, [], ◌∷◌, length, get_or, None, Option, sym, refl, ap, ◌∙◌, ⊎_elim, arith}
 use Rattle.std.specs.List.{slice_get}
 use Rattle.std.proofs.lemmas.List.{get_or_past}
 use Rattle.std.proofs.lemmas.Bool.{cases_lt, lt-ltb, le-ltb}
@@ -44,3 +44,12 @@ counter-mark l k m low =
     (λ h. mark-in l k m h ∙ ap (λ r. get_or r.standing k false) (sym (counter-row l m h)))
     (λ h. let off : counted_mark l k m ≡ false = grind (arith, nat_tests) in off ∙ ap (λ r. get_or r.standing k false) (sym (past l m h)))
     (cases_lt m l)
+
+pub degree-by : (l m n : ℕ) → n ≡ counted_degree l m → n ≡ degree (counter l) m
+degree-by l m n e = e ∙ counter-degree l m
+
+pub way-by : (l m p : ℕ) (o : Option ℕ) → o ≡ counted_way l m p → o ≡ way_at (counter l) m p
+way-by l m p o e = e ∙ counter-way l m p
+
+pub mark-by : (l k m : ℕ) (b : Bool) → 1 ≤ l → b ≡ counted_mark l k m → b ≡ stands (counter l) k m
+mark-by l k m b low e = e ∙ counter-mark l k m low

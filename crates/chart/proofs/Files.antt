@@ -1,5 +1,7 @@
 -- Loops over the records of a file and over the places of a record, and the first cause to refuse a file.
-use Rattle.std.proofs.Common.{◌≡◌, ℕ, suc, ◌+◌, ◌-◌, ◌<◌, ◌≤◌, Bool, true, false, cond, ◌&&◌, eqb, leb, List, length, Some, None, Option, ap, ◌∙◌, add-mul, arith}
+use Rattle.std.proofs.Common.{◌≡◌, ℕ, zero, suc, ◌+◌, ◌<◌, ◌≤◌, Bool, true, false, cond, not, ◌&&◌, eqb, leb, List, [], ◌∷◌, length, Some, Option, refl, sym, ap, ◌∙◌, add-mul, arith}
+use Rattle.std.specs.List.{find, list_all, range_with_len, starts_with}
+use Rattle.std.proofs.lemmas.Bool.Decides.{nat_tests}
 use Rattle.std.specs.Option.{option_map}
 use Rattle.std.proofs.lemmas.Nat.{mul-le}
 use Rattle.std.proofs.lemmas.Bool.{le-leb, lt-leb, eq-eqb, ne_eqb}
@@ -7,19 +9,30 @@ use Rattle.basis.specs.declared.refusal.Refusal.{Refusal}
 use Rattle.basis.specs.declared.refusal.Refusal.TheVariants.{ShortFile, Signature, FileLength}
 use Rattle.basis.specs.declared.refusal.Refusal.TheVariants.{Header as BadHeader, Record as BadRecord}
 use Rattle.chart.specs.declared.record.Header.{Header}
-use Rattle.chart.specs.Files.{every, lowest, stride, place_of, file_length, signed, header_of, limited, sound_in, unless_so, fault}
+use Rattle.chart.specs.Files.{Headed, every, lowest, stride, place_of, file_length, signed, header_of, limited, sound_in, unless_so, fault}
 
-pub every-step : (t : ℕ → Bool) (i n : ℕ) → i < n → every t i (n - i) ≡ (t i && every t (i + 1) (n - (i + 1)))
-every-step t i n h = ap (every t i) (let e : n - i ≡ suc (n - (i + 1)) = omega arith in e)
+pub every-list : (t : ℕ → Bool) (a n : ℕ) → list_all t (range_with_len a n) ≡ every t a n
+every-list t a zero = refl
+every-list t a (suc n) = ap (λ b. t a && b) (every-list t (a + 1) n)
 
-pub every-end : (t : ℕ → Bool) (i n : ℕ) → n ≤ i → every t i (n - i) ≡ true
-every-end t i n h = ap (every t i) (let e : n - i ≡ 0 = omega arith in e)
+pub lowest-list : (t : ℕ → Bool) (a n : ℕ) → find (λ m. not (t m)) (range_with_len a n) ≡ lowest t a n
+lowest-list t a zero = refl
+lowest-list t a (suc n) = ap (λ o. cond (not (t a)) (Some a) o) (lowest-list t (a + 1) n) ∙ turned (t a) (Some a) (lowest t (a + 1) n)
+  where
+    turned : (b : Bool) (x y : Option ℕ) → cond (not b) x y ≡ cond b y x
+    turned true x y = refl
+    turned false x y = refl
 
-pub lowest_step : (t : ℕ → Bool) (i n : ℕ) → i < n → lowest t i (n - i) ≡ cond (t i) (lowest t (i + 1) (n - (i + 1))) (Some i)
-lowest_step t i n h = ap (lowest t i) (let e : n - i ≡ suc (n - (i + 1)) = omega arith in e)
+signature-same : (a b c d e : ℕ) → (eqb 77 a && (eqb 67 b && (eqb 72 c && (eqb 0 d && (eqb 1 e && true))))) ≡ (eqb a 77 && (eqb b 67 && (eqb c 72 && (eqb d 0 && eqb e 1))))
+signature-same a b c d e = grind (arith, nat_tests)
 
-pub lowest-end : (t : ℕ → Bool) (i n : ℕ) → n ≤ i → lowest t i (n - i) ≡ None
-lowest-end t i n h = ap (lowest t i) (let e : n - i ≡ 0 = omega arith in e)
+pub signature : (f : List ℕ) → 12 ≤ length f → starts_with eqb f (77 ∷ (67 ∷ (72 ∷ (0 ∷ (1 ∷ []))))) ≡ signed f
+signature (a ∷ (b ∷ (c ∷ (d ∷ (e ∷ r))))) h = signature-same a b c d e
+signature [] h = absurd (omega arith)
+signature (a ∷ []) h = absurd (omega arith)
+signature (a ∷ (b ∷ [])) h = absurd (omega arith)
+signature (a ∷ (b ∷ (c ∷ []))) h = absurd (omega arith)
+signature (a ∷ (b ∷ (c ∷ (d ∷ [])))) h = absurd (omega arith)
 
 -- a record of a mode lies within the file
 pub record-within : (h : Header) (m : ℕ) → m < h.modes → place_of h m + stride h ≤ file_length h
@@ -44,14 +57,17 @@ pub fault-header : (f : List ℕ) → 12 ≤ length f → signed f ≡ true → 
 unfolding fault
 fault-header f h s e = skip (leb 12 (length f)) ShortFile _ (le-leb 12 (length f) h) ∙ (skip (signed f) Signature _ s ∙ stop (limited (header_of f)) BadHeader _ e)
 
-pub fault-whole : (f : List ℕ) → 12 ≤ length f → signed f ≡ true → limited (header_of f) ≡ true → (length f ≡ file_length (header_of f) → ⊥) → fault f ≡ Some FileLength
+whole : (f : List ℕ) → 12 ≤ length f → signed f ≡ true → limited (header_of f) ≡ true → fault f ≡ unless_so (eqb (length f) (file_length (header_of f))) FileLength (option_map BadRecord (lowest (sound_in f (header_of f)) 0 (header_of f).modes))
 unfolding fault
-fault-whole f h s l e =
-    skip (leb 12 (length f)) ShortFile _ (le-leb 12 (length f) h)
-    ∙ (skip (signed f) Signature _ s ∙ (skip (limited (header_of f)) BadHeader _ l ∙ stop (eqb (length f) (file_length (header_of f))) FileLength _ (ne_eqb _ _ e)))
+whole f h s l = skip (leb 12 (length f)) ShortFile _ (le-leb 12 (length f) h) ∙ (skip (signed f) Signature _ s ∙ skip (limited (header_of f)) BadHeader _ l)
 
-pub fault-records : (f : List ℕ) → 12 ≤ length f → signed f ≡ true → limited (header_of f) ≡ true → length f ≡ file_length (header_of f) → fault f ≡ option_map BadRecord (lowest (sound_in f (header_of f)) 0 (header_of f).modes)
-unfolding fault
-fault-records f h s l e =
-    skip (leb 12 (length f)) ShortFile _ (le-leb 12 (length f) h)
-    ∙ (skip (signed f) Signature _ s ∙ (skip (limited (header_of f)) BadHeader _ l ∙ skip (eqb (length f) (file_length (header_of f))) FileLength _ (eq-eqb _ _ e)))
+headed : (f : List ℕ) (h : Header) → Headed f h → fault f ≡ unless_so (eqb (length f) (file_length h)) FileLength (option_map BadRecord (lowest (sound_in f h) 0 h.modes))
+headed f h e =
+    whole f e.0 e.1.0 (ap limited (sym e.1.1.1) ∙ e.1.1.0)
+    ∙ ap (λ k. unless_so (eqb (length f) (file_length k)) FileLength (option_map BadRecord (lowest (sound_in f k) 0 k.modes))) (sym e.1.1.1)
+
+pub fault-whole : (f : List ℕ) (h : Header) → Headed f h → (length f ≡ file_length h → ⊥) → fault f ≡ Some FileLength
+fault-whole f h e l = headed f h e ∙ stop (eqb (length f) (file_length h)) FileLength _ (ne_eqb _ _ l)
+
+pub fault-records : (f : List ℕ) (h : Header) → Headed f h → length f ≡ file_length h → (o : Option ℕ) → o ≡ lowest (sound_in f h) 0 h.modes → fault f ≡ option_map BadRecord o
+fault-records f h e l o s = headed f h e ∙ (skip (eqb (length f) (file_length h)) FileLength _ (eq-eqb _ _ l) ∙ ap (option_map BadRecord) (sym s))

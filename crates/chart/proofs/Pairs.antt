@@ -1,7 +1,7 @@
 -- The questions of a pair answer the pair of the meanings.
 use Rattle.std.proofs.Common.{◌≡◌, ℕ, ◌+◌, ◌-◌, ◌*◌, ◌/◌, ◌%◌, ◌<◌, ◌≤◌, true, ltb, List, ◌++◌, map, length, get_or, Some, None, Option, sym, ap, ◌∙◌, ⊎_elim, div-lt_iff_lt-mul, arith, length-append}
 use Rattle.std.specs.List.{slice_get}
-use Rattle.std.specs.Option.{option_map}
+use Rattle.std.specs.Option.{option_map, MatchOption}
 use Rattle.std.proofs.iter.runs.Lists.{nth_left, nth_right, slice_get-map, nth_read, slice_get_within, same_Some}
 use Rattle.std.proofs.lemmas.Nat.{mod_below}
 use Rattle.std.proofs.lemmas.List.{get_or_past, length-map}
@@ -82,15 +82,19 @@ pair-past μ ν m fit pos e =
     let past = sides-none (size μ) (size ν) m pos e in
     ap (λ κ. row κ m) (pair-joined μ ν fit) ∙ get_or_past (joined μ ν).rows m blank (omega (arith, joined-size μ ν))
 
-pub sides-below : (l r m i j : ℕ) → 0 < r → Some (i, j) ≡ sides_at l r m → (i < l) × (j < r)
-sides-below l r m i j pos e =
-    let at = sides-some l r m i j pos e in
-    let k = (div-lt_iff_lt-mul {k = r} {x = m} {y = l} pos).1 at.0 in
-    (omega arith, omega (arith, mod_below m r pos))
-
-pub pair-degree : (μ ν : Meaning) (i j : ℕ) → degree μ i + degree ν j ≡ length (pair_row μ ν i j).ways
+pair-degree : (μ ν : Meaning) (i j : ℕ) → degree μ i + degree ν j ≡ length (pair_row μ ν i j).ways
 pair-degree μ ν i j =
     let total = length-append (left_ways μ ν i j) (right_ways μ ν i j) in
     let one = length-map (ways_of μ i) (λ x. x * size ν + j) in
     let two = length-map (ways_of ν j) (λ y. i * size ν + y) in
     omega arith
+
+pub degree-by : (μ ν : Meaning) (m : ℕ) (o : Option (ℕ × ℕ)) (n : ℕ) → true ≡ fitting μ ν → 0 < size ν → o ≡ sides_at (size μ) (size ν) m → MatchOption o (n ≡ 0) (λ s. n ≡ degree μ s.0 + degree ν s.1) → n ≡ degree (pair μ ν) m
+degree-by μ ν m None n fit pos e h = h ∙ ap (λ r. length r.ways) (sym (pair-past μ ν m fit pos e))
+degree-by μ ν m (Some (i, j)) n fit pos e h = h ∙ (pair-degree μ ν i j ∙ ap (λ r. length r.ways) (sym (pair_row_lem μ ν m i j fit pos e)))
+
+pub sides-below : (l r m i j : ℕ) → 0 < r → Some (i, j) ≡ sides_at l r m → (i < l) × (j < r)
+sides-below l r m i j pos e =
+    let at = sides-some l r m i j pos e in
+    let k = (div-lt_iff_lt-mul {k = r} {x = m} {y = l} pos).1 at.0 in
+    (omega arith, omega (arith, mod_below m r pos))

@@ -1,5 +1,5 @@
 -- The chart file, byte by byte: what it means, and the first cause to refuse it.
-use Rattle.std.specs.Prelude.{ℕ, zero, suc, ◌+◌, ◌*◌, ◌/◌, ◌^◌, Bool, true, false, cond, ◌&&◌, List, map, length, Some, None, Ok, Err, Option, Result, ◌==◌, nat_le, nat_lt, slice_index}
+use Rattle.std.specs.Prelude.{◌≡◌, ℕ, zero, suc, ◌+◌, ◌*◌, ◌/◌, ◌^◌, ◌≤◌, Bool, true, false, cond, ◌&&◌, List, map, length, Some, None, Ok, Err, Option, Result, ◌==◌, nat_le, nat_lt, slice_index}
 use Rattle.std.specs.List.{range_with_len}
 use Rattle.std.specs.Option.{option_map}
 use Rattle.basis.specs.declared.refusal.Refusal.{Refusal}
@@ -90,6 +90,10 @@ sound_at f h at =
 -- the record of a mode does
 abbrev pub sound_in : List ℕ → Header → ℕ → Bool
 sound_in f h m = sound_at f h (place_of h m)
+
+-- a file that begins with this header, which keeps the limits
+abbrev pub Headed : List ℕ → Header → Type 0
+Headed f h = (12 ≤ length f) × ((signed f ≡ true) × ((limited h ≡ true) × (h ≡ header_of f)))
 
 -- the first cause to refuse a file
 abbrev pub unless_so : Bool → Refusal → Option Refusal → Option Refusal

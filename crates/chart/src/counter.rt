@@ -2,7 +2,7 @@
 // mark 1 at the last.
 ghost use Rattle.std.specs.Prelude.{◌≡◌, ◌≤◌, true, false, Ok, Err};
 ghost use Rattle.basis.specs.declared.refusal.Refusal.TheVariants.{CounterLength};
-ghost use Rattle.chart.specs.Counters.{counter-lawful, counted_degree, counted_mark, counted_way, counter_fits};
+ghost use Rattle.chart.specs.Counters.{counter-lawful, counter_fits};
 ghost use Rattle.ctl.specs.Chart.{counter};
 
 use super::chart::Chart;
@@ -19,44 +19,10 @@ impl CounterChart {
     pub fn new(length: u16) -> Result<CounterChart, Refusal>
         ensures { elim result [ Ok c ↦ (counter_fits length ≡ true) × (c.length ≡ length) | Err e ↦ (counter_fits length ≡ false) × (e ≡ CounterLength) ] }
     {
-        if length == 0 || length > 256 {
+        if !(1..=256).contains(&length) {
             return Err(Refusal::CounterLength);
         }
         Ok(CounterChart { length })
-    }
-
-    fn ways_out(&self, mode: u16) -> usize
-        ensures { result ≡ counted_degree self.now.length mode }
-    {
-        if mode >= self.length {
-            0
-        } else if mode + 1 == self.length {
-            1
-        } else {
-            2
-        }
-    }
-
-    fn target(&self, mode: u16, place: usize) -> Option<u16>
-        ensures { result ≡ counted_way self.now.length mode place }
-    {
-        if place >= self.ways_out(mode) {
-            None
-        } else if place == 0 && mode < self.length - 1 {
-            Some(mode + 1)
-        } else {
-            Some(0)
-        }
-    }
-
-    fn marked(&self, mark: usize, mode: u16) -> bool
-        ensures { result ≡ counted_mark self.now.length mark mode }
-    {
-        match mark {
-            0 => mode == 0,
-            1 => mode == self.length - 1,
-            _ => false,
-        }
     }
 }
 
@@ -82,14 +48,29 @@ impl Chart for CounterChart {
     }
 
     fn degree(&self, mode: u16) -> usize {
-        self.ways_out(mode)
+        if mode >= self.length {
+            0
+        } else if mode + 1 == self.length {
+            1
+        } else {
+            2
+        }
     }
 
     fn way(&self, mode: u16, place: usize) -> Option<u16> {
-        self.target(mode, place)
+        // the last way leads back, one before it leads on
+        match self.degree(mode).saturating_sub(place) {
+            0 => None,
+            1 => Some(0),
+            _ => Some(mode + 1),
+        }
     }
 
     fn stands(&self, mark: usize, mode: u16) -> bool {
-        self.marked(mark, mode)
+        match mark {
+            0 => mode == 0,
+            1 => mode == self.length - 1,
+            _ => false,
+        }
     }
 }

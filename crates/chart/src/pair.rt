@@ -42,9 +42,7 @@ impl<L: Chart, R: Chart> Pair<L, R> {
     fn fit(&self) -> bool
         ensures { result ≡ fitting (L.Chart.meaning self.now.left) (R.Chart.meaning self.now.right) }
     {
-        u32::from(self.left.modes()) * u32::from(self.right.modes()) <= 256
-            && self.left.width() + self.right.width() <= 16
-            && self.left.marks() + self.right.marks() <= 16
+        fits(&self.left, &self.right).is_ok()
     }
 
     // The modes of the sides, where the pair has the mode.
@@ -53,11 +51,7 @@ impl<L: Chart, R: Chart> Pair<L, R> {
     {
         let modes = self.right.modes();
         let left = mode / modes;
-        if left < self.left.modes() {
-            Some((left, mode % modes))
-        } else {
-            None
-        }
+        (left < self.left.modes()).then_some((left, mode % modes))
     }
 
     // The side that moves, and the place among its own ways.
@@ -85,14 +79,11 @@ impl<L: Chart, R: Chart> Pair<L, R> {
         ensures { result ≡ slice_get (pair_row (L.Chart.meaning self.now.left) (R.Chart.meaning self.now.right) left right).ways place }
     {
         match self.mover(left, place) {
-            Side::Left(own) => match self.left.way(left, own) {
-                Some(way) => Some(self.mode_of(way, right)),
-                None => None,
-            },
-            Side::Right(own) => match self.right.way(right, own) {
-                Some(way) => Some(self.mode_of(left, way)),
-                None => None,
-            },
+            Side::Left(own) => self.left.way(left, own).map(|way| self.mode_of(way, right)),
+            Side::Right(own) => self
+                .right
+                .way(right, own)
+                .map(|way| self.mode_of(left, way)),
         }
     }
 }
@@ -136,25 +127,18 @@ impl<L: Chart, R: Chart> Chart for Pair<L, R> {
 
     fn degree(&self, mode: u16) -> usize {
         if !self.fit() {
-            return if mode == 0 { 1 } else { 0 };
+            return usize::from(mode == 0);
         }
-        match self.sides(mode) {
-            Some((left, right)) => self.left.degree(left) + self.right.degree(right),
-            None => 0,
-        }
+        self.sides(mode).map_or(0, |(left, right)| {
+            self.left.degree(left) + self.right.degree(right)
+        })
     }
 
     fn way(&self, mode: u16, place: usize) -> Option<u16> {
         if !self.fit() {
-            return if mode == 0 && place == 0 {
-                Some(0)
-            } else {
-                None
-            };
+            return (mode == 0 && place == 0).then_some(0);
         }
-        let Some((left, right)) = self.sides(mode) else {
-            return None;
-        };
+        let (left, right) = self.sides(mode)?;
         self.joined_way(left, right, place)
     }
 

@@ -74,3 +74,13 @@ fn new_place(rt: HostRuntime) -> Result<(), Fail> {
     assert!(rt; is_idle(&place));
     Ok(())
 }
+
+#[test]
+fn from_file(rt: HostRuntime) -> Result<(), Fail> {
+    let meter = FiledChart::from_file(rt.alloc(), &METER)?;
+    assert!(rt; is_meter(&meter));
+    assert!(rt;
+        FiledChart::from_file(rt.alloc(), &METER[..11]).err() == Some(Refusal::ShortFile)
+    );
+    Ok(())
+}

@@ -1,8 +1,10 @@
 // The questions of a filed chart.
 ghost use Rattle.std.specs.Prelude.{◌≡◌, ◌<◌};
 ghost use Rattle.chart.specs.Records.{lawful-from, masked, meaning_of};
+ghost use Rattle.chart.specs.Filed.{chart_of};
 ghost use Rattle.std.specs.List.{slice_get};
 ghost use Rattle.std.specs.Option.{option_map};
+ghost use Rattle.ctl.specs.Chart.{ways_of};
 
 use super::FiledChart;
 use crate::chart::Chart;
@@ -20,11 +22,16 @@ impl FiledChart {
     fn record(&self, mode: u16) -> Option<&ModeRecord>
         ensures { option_map (λ x. x.now) result ≡ slice_get self.now.records.items mode }
     {
-        let place = mode as usize;
-        if place < self.records.len() {
-            Some(&self.records[place])
-        } else {
-            None
+        self.records.get(mode as usize)
+    }
+
+    // A mode that is not there has no ways.
+    fn ways(&self, mode: u16) -> &[u16]
+        ensures { result.now ≡ ways_of (chart_of self.now) mode }
+    {
+        match self.record(mode) {
+            Some(record) => record.ways(),
+            None => &[],
         }
     }
 }
@@ -51,27 +58,15 @@ impl Chart for FiledChart {
     }
 
     fn degree(&self, mode: u16) -> usize {
-        match self.record(mode) {
-            Some(record) => record.degree as usize,
-            None => 0,
-        }
+        self.ways(mode).len()
     }
 
     fn way(&self, mode: u16, place: usize) -> Option<u16> {
-        let Some(record) = self.record(mode) else {
-            return None;
-        };
-        if place < record.degree as usize {
-            Some(record.ways[place])
-        } else {
-            None
-        }
+        self.ways(mode).get(place).copied()
     }
 
     fn stands(&self, mark: usize, mode: u16) -> bool {
-        let Some(record) = self.record(mode) else {
-            return false;
-        };
-        mark < self.marks as usize && marked(record.marks, mark)
+        self.record(mode).is_some_and(|record| mark < self.marks as usize
+            && marked(record.marks, mark))
     }
 }

@@ -1,8 +1,8 @@
 // Whether a file is a chart: its header, its length, and each record's layout, with the first cause to refuse it.
 // `specs/Files.antt` has the format.
-ghost use Rattle.std.specs.Prelude.{◌≡◌, ◌+◌, ◌*◌, ◌<◌, ◌≤◌, length, Some, None, Ok, Err};
-ghost use Rattle.chart.specs.Files.{fault, file_length, header_of, limited, lowest, place_of, place_sound, places_sound, sound_at, sound_in, stride};
-ghost use Rattle.chart.specs.Files.{number as number_at, signed as signed_file};
+ghost use Rattle.std.specs.Prelude.{◌≡◌, ◌+◌, ◌*◌, ◌<◌, ◌≤◌, length, Some, None, Ok, Err, MatchResult};
+ghost use Rattle.chart.specs.Files.{Headed, fault, file_length, header_of, limited, lowest, place_of, place_sound, places_sound, sound_at, sound_in, stride};
+ghost use Rattle.chart.specs.Files.{number as number_at};
 
 use crate::record::Header;
 use basis::Refusal;
@@ -15,35 +15,41 @@ pub(super) fn number(file: &[u8], at: usize) -> u16
     u16::from_be_bytes([file[at], file[at + 1]])
 }
 
-fn signed(file: &[u8]) -> bool
-    requires { 12 ≤ length file.now }
-    ensures { result ≡ signed_file file.now }
-{
-    file[0] == b'M' && file[1] == b'C' && file[2] == b'H' && file[3] == 0 && file[4] == 1
-}
+impl TryFrom<&[u8]> for Header {
+    type Error = Refusal;
 
-fn header(file: &[u8]) -> Header
-    requires { 12 ≤ length file.now }
-    ensures { result ≡ header_of file.now }
-{
-    Header {
-        modes: number(file, 5),
-        marks: file[7],
-        width: file[8],
-        start: number(file, 9),
-        spare: file[11],
+    ghost try_from_gives = { λ f r. MatchResult r (λ h. Headed f.now h) (λ e. fault f.now ≡ Some e) };
+
+    // The header of a file, if the file has one within the limits.
+    fn try_from(file: &[u8]) -> Result<Header, Refusal> {
+        if file.len() < 12 {
+            return Err(Refusal::ShortFile);
+        }
+        if !file.starts_with(b"MCH\0\x01") {
+            return Err(Refusal::Signature);
+        }
+        let header = Header {
+            modes: number(file, 5),
+            marks: file[7],
+            width: file[8],
+            start: number(file, 9),
+            spare: file[11],
+        };
+        if header.is_within_limits() {
+            Ok(header)
+        } else {
+            Err(Refusal::Header)
+        }
     }
 }
 
 impl Header {
-    fn within_limits(&self) -> bool
+    fn is_within_limits(&self) -> bool
         ensures { result ≡ limited self.now }
     {
-        1 <= self.modes
-            && self.modes <= 256
+        (1..=256).contains(&self.modes)
             && self.marks <= 16
-            && 1 <= self.width
-            && self.width <= 8
+            && (1..=8).contains(&self.width)
             && self.start < self.modes
             && self.spare == 0
     }
@@ -79,13 +85,10 @@ fn places_are_sound(file: &[u8], header: &Header, at: usize, degree: u8) -> bool
     requires { at + (4 + 2 * header.now.width) ≤ length file.now }
     ensures { result ≡ places_sound file.now header.now at degree }
 {
-    for place in 0..header.width {
+    (0..header.width).all(|place| {
         let way = number(file, at + 4 + 2 * place as usize);
-        if !place_is_sound(header, degree, place, way) {
-            return false;
-        }
-    }
-    true
+        place_is_sound(header, degree, place, way)
+    })
 }
 
 fn record_is_sound(file: &[u8], header: &Header, at: usize) -> bool
@@ -94,8 +97,7 @@ fn record_is_sound(file: &[u8], header: &Header, at: usize) -> bool
 {
     let degree = file[at + 2];
     u32::from(number(file, at)) >> header.marks == 0
-        && 1 <= degree
-        && degree <= header.width
+        && (1..=header.width).contains(&degree)
         && file[at + 3] == 0
         && places_are_sound(file, header, at, degree)
 }
@@ -105,28 +107,14 @@ fn lowest_unsound(file: &[u8], header: &Header) -> Option<u16>
     requires { (length file.now ≡ file_length header.now) × (header.now.marks ≤ 16) }
     ensures { result ≡ lowest (sound_in file.now header.now) 0 header.now.modes }
 {
-    for mode in 0..header.modes {
-        if !record_is_sound(file, header, header.place_of(mode)) {
-            return Some(mode);
-        }
-    }
-    None
+    (0..header.modes).find(|mode| !record_is_sound(file, header, header.place_of(*mode)))
 }
 
 // The file's header, or the first cause to refuse the file.
 pub(super) fn check(file: &[u8]) -> Result<Header, Refusal>
     ensures { elim result [ Ok h ↦ (fault file.now ≡ None) × (h ≡ header_of file.now) | Err e ↦ fault file.now ≡ Some e ] }
 {
-    if file.len() < 12 {
-        return Err(Refusal::ShortFile);
-    }
-    if !signed(file) {
-        return Err(Refusal::Signature);
-    }
-    let header = header(file);
-    if !header.within_limits() {
-        return Err(Refusal::Header);
-    }
+    let header = Header::try_from(file)?;
     if file.len() != header.place_of(header.modes) {
         return Err(Refusal::FileLength);
     }

@@ -1,5 +1,5 @@
 // Making the place for a filed chart, and opening a file there.
-ghost use Rattle.std.specs.Prelude.{◌≡◌, ℕ, ◌+◌, ◌*◌, ◌<◌, ◌≤◌, map, length, None, Ok, Err, vec_capacity, slice_index};
+ghost use Rattle.std.specs.Prelude.{◌≡◌, ℕ, ◌+◌, ◌*◌, ◌<◌, ◌≤◌, map, length, ◌⊎◌, Some, None, Ok, Err, MatchResult, vec_capacity, slice_index};
 ghost use Rattle.basis.specs.declared.refusal.Refusal.TheVariants.{Memory};
 ghost use Rattle.chart.specs.Filed.{Opened, chart_of};
 ghost use Rattle.chart.specs.Files.{answer, degree_at, fault, file_chart, file_row, header_of, row_at, way_of};
@@ -34,6 +34,15 @@ impl FiledChart {
         })
     }
 
+    // A new place with the file's chart, or the cause to refuse it.
+    pub fn from_file(heap: Global, file: &[u8]) -> Result<FiledChart, Refusal>
+        ensures { MatchResult result (λ c. (fault file.now ≡ None) × (chart_of c ≡ file_chart file.now)) (λ e. (e ≡ Memory) ⊎ (fault file.now ≡ Some e)) }
+    {
+        let mut chart = FiledChart::new(heap)?;
+        chart.open(file)?;
+        Ok(chart)
+    }
+
     // Puts the file's chart here, or tells the first cause to refuse it and leaves the chart that is here.
     pub fn open(&mut self, file: &[u8]) -> Result<(), Refusal>
         ensures told { result ≡ answer (fault file.now) tt }
@@ -59,11 +68,13 @@ fn read_ways(file: &[u8], at: usize, degree: u8) -> [u16; 8]
     requires { (at + (4 + 2 * degree) ≤ length file.now) × (degree ≤ 8) }
     ensures { (p : ℕ) → p < degree → slice_index result p ≡ way_of file.now at p }
 {
-    let mut ways = [0; 8];
-    for place in 0..degree {
-        ways[place as usize] = number(file, at + 4 + 2 * place as usize);
-    }
-    ways
+    std::array::from_fn(|place| {
+        if place < degree as usize {
+            number(file, at + 4 + 2 * place)
+        } else {
+            0
+        }
+    })
 }
 
 // The record that begins at a byte.

@@ -1,6 +1,13 @@
-use Rattle.std.proofs.Common.{◌∙◌}
-use Rattle.chart.proofs.Counters.{counter-degree}
+use Rattle.std.proofs.Common.{arith}
+use Rattle.std.proofs.lemmas.Bool.Decides.{nat_tests}
+use Rattle.chart.proofs.Counters.{degree-by}
 use Rattle.chart.proofs.counter.CounterChartChart.degree.Goals as goal
 
-pub returns : goal.returns
-returns c = c.ways_out.ensures ∙ counter-degree c.args.self.now.length c.args.mode
+pub returns-then-mode-self : goal.returns-then-mode-self
+returns-then-mode-self c = degree-by c.args.self.now.length c.args.mode _ (grind (arith, nat_tests))
+
+pub returns-then-mode-self-2 : goal.returns-then-mode-self-2
+returns-then-mode-self-2 c = degree-by c.args.self.now.length c.args.mode _ (grind (arith, nat_tests))
+
+pub returns-else-mode-self-2 : goal.returns-else-mode-self-2
+returns-else-mode-self-2 c = degree-by c.args.self.now.length c.args.mode _ (grind (arith, nat_tests))

@@ -1,25 +1,15 @@
-use Rattle.std.proofs.Common.{◌≡◌, ℕ, ◌+◌, ◌-◌, Bool, true, false, cond, Some, sym, ap, ◌∙◌, arith}
-use Rattle.chart.specs.Files.{lowest, sound_at, sound_in}
-use Rattle.chart.proofs.Files.{lowest_step, record-within}
+use Rattle.std.proofs.Common.{not, refl, sym, rules, tests, ◌∙◌, arith}
+use Rattle.std.proofs.lemmas.Iterator.{YieldsList-from_range}
+use Rattle.std.proofs.lemmas.Iterator.Adapters.{option_map_id}
+use Rattle.std.proofs.lemmas.Iterator.Search.{find_from_yields_List}
+use Rattle.chart.specs.Files.{sound_in}
+use Rattle.chart.proofs.Files.{lowest-list}
 use Rattle.chart.proofs.filed.check.lowest_unsound.Goals as goal
 
-pub record_is_sound-requires : goal.record_is_sound-requires
-record_is_sound-requires c =
-    let within = record-within c.args.header.now c.loop-mode.mode (omega arith) in
-    (omega (arith, c.place_of.ensures, c.requires.0), c.requires.1)
-
-pub returns-then-not-record_is_sound : goal.returns-then-not-record_is_sound
-returns-then-not-record_is_sound c =
+pub returns : goal.returns
+returns c =
+    let f = c.args.file.now in
     let h = c.args.header.now in
-    let t : ℕ → Bool = sound_in c.args.file.now h in
-    let i = c.loop-mode.mode in
-    let here : t i ≡ false = sym (c.if-not-record_is_sound.ensures ∙ ap (sound_at c.args.file.now h) c.place_of.ensures) in
-    sym (ap (λ b. cond b (lowest t (i + 1) (h.modes - (i + 1))) (Some i)) here) ∙ (sym (lowest_step t i h.modes (omega arith)) ∙ c.loop-mode.invariant)
-
-pub loop-mode-preserved : goal.loop-mode-preserved
-loop-mode-preserved c =
-    let h = c.args.header.now in
-    let t : ℕ → Bool = sound_in c.args.file.now h in
-    let i = c.loop-mode.mode in
-    let here : t i ≡ true = sym (c.if-not-record_is_sound.ensures ∙ ap (sound_at c.args.file.now h) c.place_of.ensures) in
-    sym (ap (λ b. cond b (lowest t (i + 1) (h.modes - (i + 1))) (Some i)) here) ∙ (sym (lowest_step t i h.modes (omega arith)) ∙ c.loop-mode.invariant)
+    sym (option_map_id c.find.result)
+    ∙ (find_from_yields_List (λ m. not (sound_in f h m)) _ _ _ c.find.ensures.ran (YieldsList-from_range 0 h.modes h.modes refl (omega arith)) (λ x b q k. search (rules, tests))
+    ∙ lowest-list (sound_in f h) 0 h.modes)
