@@ -53,3 +53,5 @@ way-by l m p o e = e ∙ counter-way l m p
 
 pub mark-by : (l k m : ℕ) (b : Bool) → 1 ≤ l → b ≡ counted_mark l k m → b ≡ stands (counter l) k m
 mark-by l k m b low e = e ∙ counter-mark l k m low
+
+pub ruleset questions = (degree-by, way-by, mark-by, nat_tests)

@@ -26,6 +26,7 @@ impl CounterChart {
     }
 }
 
+#[tactic(auto, using(crate::proofs::Counters::questions))]
 impl Chart for CounterChart {
     ghost meaning = { λ c. counter c.length };
 
