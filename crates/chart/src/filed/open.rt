@@ -18,9 +18,7 @@ impl FiledChart {
     pub fn new(heap: Global) -> Result<FiledChart, Refusal>
         ensures { elim result [ Ok c ↦ chart_of c ≡ idle | Err e ↦ e ≡ Memory ] }
     {
-        let Ok(mut records) = Vec::with_capacity(heap, 256) else {
-            return Err(Refusal::Memory);
-        };
+        let mut records = Vec::with_capacity(heap, 256)?;
         records.push_reserved(ModeRecord {
             marks: 0,
             degree: 1,
