@@ -13,6 +13,6 @@ mod stack;
 mod tests;
 mod writing;
 
-pub use count::Tally;
 pub use enter::write_lines;
 pub use memory::Scratch;
+pub use rounds::Tally;

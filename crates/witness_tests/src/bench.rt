@@ -3,7 +3,7 @@ use basis::Refusal;
 use chart::Chart;
 use ctl::{Rule, Temporal};
 use rounds::engine::advance;
-use rounds::{Line, ModeSet};
+use rounds::{Line, ModeSet, Tally};
 use std::alloc::Global;
 
 fn begun(heap: Global, modes: u16, rule: Rule) -> Result<Line, Refusal> {
@@ -30,8 +30,10 @@ pub fn settled<C: Chart>(heap: Global, chart: &C, rules: &[Rule]) -> Result<Vec<
         }
     }
     let mut next = ModeSet::new(heap)?;
-    let mut done = 0;
-    let count = lines.len();
-    let _ = advance(chart, &mut lines, count, &mut done, &mut next, 1000);
+    let mut tally = Tally {
+        lines: lines.len(),
+        settled: 0,
+    };
+    let _ = advance(chart, &mut lines, &mut tally, &mut next, 1000);
     Ok(lines)
 }
