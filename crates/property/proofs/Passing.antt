@@ -1,25 +1,18 @@
--- A loop over the longest front that passes a test, and over the pieces of a list of names.
-use Rattle.std.proofs.Common.{◌≡◌, ℕ, suc, ◌+◌, ◌-◌, ◌<◌, ◌≤◌, Bool, true, false, cond, not, eqb, List, [], ◌∷◌, length, get_or, take, drop, Some, Option, sym, refl, ap, ◌∙◌, inl, inr, arith, Bor}
-use Rattle.std.proofs.lemmas.List.{drop_more, drop_all}
+-- The longest front that passes a test, and the pieces of a list of names.
+use Rattle.std.proofs.Common.{◌≡◌, ℕ, suc, ◌+◌, ◌<◌, ◌≤◌, Bool, true, false, cond, not, eqb, ltb, List, [], ◌∷◌, length, take, drop, Some, None, Option, sym, refl, ap, ◌∙◌, subst, ◌⊎◌, inl, inr, arith}
+use Rattle.std.proofs.lemmas.List.{take_all}
 use Rattle.std.proofs.lemmas.Bool.{cases_Bool, cases_lt, cond-true, cond-false, cond_below, cond_above}
-use Rattle.basis.specs.Stacks.{newest, older}
-use Rattle.property.specs.Words.{front_of, is_letter, letters_of}
-use Rattle.property.specs.Lists.{grown, pieces, first_piece, behind, remaining}
+use Rattle.std.specs.List.{prefix_len, position}
+use Rattle.property.specs.Words.{front_of}
+use Rattle.property.specs.Lists.{grown, pieces, first_piece, behind}
 
-pub front-more :
-    (p : ℕ → Bool) (xs : List ℕ) (i : ℕ) → i < length xs → p (get_or xs i 0) ≡ true
-    → (i + 1) + length (front_of p (drop (i + 1) xs)) ≡ i + length (front_of p (drop i xs))
-front-more p xs i h t =
-    let e : front_of p (drop i xs) ≡ get_or xs i 0 ∷ front_of p (drop (i + 1) xs) = ap (front_of p) (drop_more xs i 0 h) ∙ cond-true (p (get_or xs i 0)) (get_or xs i 0 ∷ front_of p (drop (i + 1) xs)) [] t in
-    let l = ap length e in omega arith
-
-pub front-stop : (p : ℕ → Bool) (xs : List ℕ) (i : ℕ) → i < length xs → p (get_or xs i 0) ≡ false → i ≡ i + length (front_of p (drop i xs))
-front-stop p xs i h t =
-    let e : front_of p (drop i xs) ≡ [] = ap (front_of p) (drop_more xs i 0 h) ∙ cond-false (p (get_or xs i 0)) (get_or xs i 0 ∷ front_of p (drop (i + 1) xs)) [] t in
-    let l = ap length e in omega arith
-
-pub front-past : (p : ℕ → Bool) (xs : List ℕ) (i : ℕ) → length xs ≤ i → i ≡ i + length (front_of p (drop i xs))
-front-past p xs i h = let l = ap (λ x. length (front_of p x)) (drop_all i xs h) in omega arith
+pub front-count : (p : ℕ → Bool) (xs : List ℕ) → prefix_len p xs ≡ length (front_of p xs)
+front-count p [] = refl
+front-count p (x ∷ xs) = by (p x) (front-count p xs)
+  where
+    by : (t : Bool) → prefix_len p xs ≡ length (front_of p xs) → cond t (1 + prefix_len p xs) 0 ≡ length (cond t (x ∷ front_of p xs) [])
+    by true h = omega arith
+    by false h = refl
 
 pub front-take : (p : ℕ → Bool) (xs : List ℕ) → take (length (front_of p xs)) xs ≡ front_of p xs
 front-take p [] = refl
@@ -32,10 +25,6 @@ front-take p (b ∷ bs) =
           ap (λ x. take (length x) (b ∷ bs)) (cond-false (p b) (b ∷ front_of p bs) [] h)
           ∙ sym (cond-false (p b) (b ∷ front_of p bs) [] h)
     ]
-
-pub row-taken : (t : List ℕ) (a n : ℕ) → n ≡ a + length (letters_of (drop a t)) → take (n - a) (drop a t) ≡ letters_of (drop a t)
-row-taken t a n e =
-    ap (λ k. take k (drop a t)) (let d : n - a ≡ length (letters_of (drop a t)) = omega arith in d) ∙ front-take is_letter (drop a t)
 
 -- the pieces: the first, and those behind its comma
 behind-later : (b e : ℕ) (bs : List ℕ) → behind e bs ≡ behind (suc e) (b ∷ bs)
@@ -59,15 +48,33 @@ pieces-first (b ∷ bs) = by (eqb b 44) (pieces-first bs)
     by true h = ap (λ x. [] ∷ x) (cond_below 0 (suc (length bs)) (pieces bs) [] (omega arith))
     by false h = ap (grown b) h ∙ ap (λ x. (b ∷ first_piece bs) ∷ x) (behind-later b (length (first_piece bs)) bs)
 
--- what is left of a list gives its first piece, and leaves those behind
-pub next-piece : (o : Option (Bor (List ℕ))) (r : Bor (List ℕ)) (n : ℕ) → o ≡ Some r → n ≡ length (first_piece r.now) → Some (take (n - 0) r.now) ≡ newest (remaining o)
-next-piece o r n e l =
-    let k : n - 0 ≡ length (first_piece r.now) = omega arith in
-    ap (λ x. Some (take x r.now)) k
-    ∙ (ap Some (front-take (λ b. not (eqb b 44)) r.now) ∙ (ap newest (sym (pieces-first r.now)) ∙ ap (λ x. newest (remaining x)) (sym e)))
+-- the first comma ends the first piece, and a list with no comma is one piece
+abbrev pub Cut : List ℕ → Option ℕ → Type 0
+Cut r None = pieces r ≡ r ∷ []
+Cut r (Some k) = pieces r ≡ take k r ∷ pieces (drop (k + 1) r)
 
-pub later_pieces : (o : Option (Bor (List ℕ))) (r : Bor (List ℕ)) (n : ℕ) (ps : List (List ℕ)) → o ≡ Some r → n ≡ length (first_piece r.now) → ps ≡ behind n r.now → ps ≡ older (remaining o)
-later_pieces o r n ps e l h =
-    h
-    ∙ (ap (λ x. behind x r.now) l
-    ∙ (ap older (sym (pieces-first r.now)) ∙ ap (λ x. older (remaining x)) (sym e)))
+cut_by : (r : List ℕ) (n : ℕ) → n ≡ length (first_piece r) → Cut r (cond (ltb n (length r)) (Some n) None)
+cut_by r n e = by (cases_lt n (length r))
+  where
+    first : take n r ≡ first_piece r
+    first = ap (λ k. take k r) e ∙ front-take (λ b. not (eqb b 44)) r
+
+    split : pieces r ≡ take n r ∷ behind n r
+    split = pieces-first r ∙ (ap (λ k. first_piece r ∷ behind k r) (sym e) ∙ ap (λ x. x ∷ behind n r) (sym first))
+
+    by : (n < length r) ⊎ (length r ≤ n) → Cut r (cond (ltb n (length r)) (Some n) None)
+    by (inl h) =
+        subst
+        (Cut r)
+        (cond_below n (length r) (Some n) None h)
+        (split ∙ ap (λ x. take n r ∷ x) (sym (cond_below n (length r) (pieces (drop (n + 1) r)) [] h)))
+    by (inr h) =
+        subst
+        (Cut r)
+        (cond_above n (length r) (Some n) None None h refl)
+        (split
+        ∙ (ap (λ x. x ∷ behind n r) (take_all n r h)
+        ∙ ap (λ x. r ∷ x) (sym (cond_above n (length r) (pieces (drop (n + 1) r)) [] [] h refl))))
+
+pub cut : (r : List ℕ) (o : Option ℕ) → o ≡ position (λ b. eqb b 44) r → Cut r o
+cut r o e = subst (Cut r) (sym e) (cut_by r (prefix_len (λ b. not (eqb b 44)) r) (front-count (λ b. not (eqb b 44)) r))

@@ -6,8 +6,6 @@ use Rattle.ctl.specs.declared.rule.Quantifier.{Quantifier}
 use Rattle.property.specs.declared.tokens.Token.{Token}
 use Rattle.property.specs.declared.tokens.Token.TheVariants.{Name, Constant, Unary, Open, Middle, Close}
 use Rattle.property.specs.declared.tokens.Placed.{Placed}
-use Rattle.property.specs.declared.tokens.Capital.{Capital}
-use Rattle.property.specs.declared.tokens.Capital.TheVariants.{Plain, After}
 use Rattle.property.specs.declared.tokens.Step.{Step}
 use Rattle.property.specs.declared.tokens.Step.TheVariants.{Name as NameStep, Wait, Whole, Fault}
 use Rattle.property.specs.Words.{Word, letters, digit, before, opening, middle, closing, capital, spelling, is_letter, found, singles, capitals, completions, Formed, none, fault, made}
@@ -22,14 +20,14 @@ word_of (Middle m) = middle m
 word_of (Close c) = closing c
 
 -- what is not yet handed on: a waiting capital, and the text from the cursor on
-abbrev pub waiting : Capital → List ℕ
-waiting Plain = []
-waiting (After q) = capital q ∷ []
+abbrev pub waiting : Option Quantifier → List ℕ
+waiting None = []
+waiting (Some q) = capital q ∷ []
 
-abbrev pub unread : Capital → ℕ → List ℕ → List ℕ
+abbrev pub unread : Option Quantifier → ℕ → List ℕ → List ℕ
 unread st at text = waiting st ++ drop at text
 
-abbrev pub place_in : Capital → ℕ → ℕ
+abbrev pub place_in : Option Quantifier → ℕ → ℕ
 place_in st at = at - length (waiting st)
 
 -- one byte in a state
@@ -47,9 +45,9 @@ abbrev pub or_wait : Option Quantifier → ℕ → Turn
 or_wait None b = or_nothing (found b singles)
 or_wait (Some q) b = wait q
 
-abbrev pub turn_of : Capital → ℕ → Turn
-turn_of Plain b = cond (is_letter b) name (or_wait (found b capitals) b)
-turn_of (After q) b = or_nothing (found b (completions q))
+abbrev pub turn_of : Option Quantifier → ℕ → Turn
+turn_of None b = cond (is_letter b) name (or_wait (found b capitals) b)
+turn_of (Some q) b = or_nothing (found b (completions q))
 
 abbrev pub turned : Step → Turn
 turned NameStep = name

@@ -19,13 +19,6 @@ pub struct Placed<'a> {
     pub position: usize,
 }
 
-// Whether a capital waits for the byte that completes it: `E` for some run, `A` for every run.
-#[derive(Clone, Copy)]
-pub enum Capital {
-    Plain,
-    After(Quantifier),
-}
-
 // What one more byte makes: a name begins, a capital waits, a token is whole, or no token can be formed.
 #[derive(Clone, Copy)]
 pub enum Step<'a> {

@@ -1,26 +1,15 @@
-use Rattle.std.proofs.Common.{length, sym, ap, ◌∙◌, arith}
-use Rattle.std.proofs.lemmas.Slice.Eq.{slice_eq-Decides}
-use Rattle.property.specs.Lists.{place_from}
-use Rattle.property.proofs.Sought.{decided, seek-here, seek-on, one_fewer, listed-count}
+use Rattle.std.proofs.Common.{◌∙◌, rules, tests}
+use Rattle.std.specs.Str.{bytes_eq}
+use Rattle.std.proofs.lemmas.Iterator.Adapters.{position_from-zero}
+use Rattle.std.proofs.lemmas.Iterator.Consumers.{YieldsList-from_first}
+use Rattle.std.proofs.lemmas.Iterator.Search.{position_from_yields_List}
+use Rattle.property.specs.Lists.{listed, remaining}
+use Rattle.property.proofs.Sought.{same-letters, sought}
 use Rattle.property.proofs.names.find.Goals as goal
-use Rattle.std.proofs.lemmas.Bool.Decides.{Decides-eqb}
 
-pub loop-name-init : goal.loop-name-init
-loop-name-init c =
-    let e = c.of-names.ensures in
-    let l = ap length e in
-    let n = listed-count c.args.list.now in (ap (place_from 0 c.args.letters.now) e, omega arith)
-
-pub returns-then-eq : goal.returns-then-eq
-returns-then-eq c =
-    seek-here _ _ _ _ c.in-Some.ensures.value (sym c.if-eq.true ∙ decided c.in-Some.name.now c.args.letters.now _ (slice_eq-Decides Decides-eqb _ _ _ c.eq.ensures))
-    ∙ c.loop-name.invariant.0
-
-pub loop-name-preserved : goal.loop-name-preserved
-loop-name-preserved c =
-    let v = c.in-Some.ensures.value in
-    let r = c.in-Some.ensures.rest in
-    let f = one_fewer _ _ _ v r in (
-      seek-on _ _ _ _ _ v (sym c.if-eq.false ∙ decided c.in-Some.name.now c.args.letters.now _ (slice_eq-Decides Decides-eqb _ _ _ c.eq.ensures)) r ∙ c.loop-name.invariant.0,
-      omega arith,
-    )
+pub returns : goal.returns
+returns c =
+    let ls = c.args.letters.now in
+    let ns = listed c.args.list.now in
+    position_from_yields_List (λ n. bytes_eq n ls) _ _ c.position.result c.position.ensures.ran (YieldsList-from_first (λ x. x.now) (λ s. remaining s.rest) ns c.of.ensures.names) (λ x b q k. search (rules, tests, same-letters))
+    ∙ (position_from-zero (λ n. bytes_eq n ls) ns ∙ sought 0 ls ns)

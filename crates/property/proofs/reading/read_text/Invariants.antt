@@ -11,11 +11,11 @@ invariant-loop-placed l =
     (fit_all
     (listed l.names)
     (l.complete, (tags (held l.stack.count l.stack.slots.now), vec_items l.parts.list))
-    (scan 0 (place_in l.reader.state l.reader.cursor) (unread l.reader.state l.reader.cursor l.reader.text.now))
+    (scan 0 (place_in l.reader.capital l.reader.cursor) (unread l.reader.capital l.reader.cursor l.reader.text.now))
     ≡ fit_all (listed l.names) (false, ([], [])) (scan 0 0 l.text))
-    × ((place_in l.reader.state l.reader.cursor + length (unread l.reader.state l.reader.cursor l.reader.text.now) ≡ length l.text)
-    × ((length (tags (held l.stack.count l.stack.slots.now)) + length (vec_items l.parts.list) ≤ place_in l.reader.state l.reader.cursor)
+    × ((place_in l.reader.capital l.reader.cursor + length (unread l.reader.capital l.reader.cursor l.reader.text.now) ≡ length l.text)
+    × ((length (tags (held l.stack.count l.stack.slots.now)) + length (vec_items l.parts.list) ≤ place_in l.reader.capital l.reader.cursor)
     × (length l.stack.slots.now ≡ 255)))
 
 abbrev pub decreases-loop-placed : goal.decreases-loop-placed
-decreases-loop-placed l = length (unread l.reader.state l.reader.cursor l.reader.text.now)
+decreases-loop-placed l = length (unread l.reader.capital l.reader.cursor l.reader.text.now)
