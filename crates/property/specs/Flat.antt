@@ -1,5 +1,7 @@
 -- Fitting tokens as the code does it: the tags that wait, newest first, and the parts written so far, in postfix order.
-use Rattle.std.specs.Prelude.{ℕ, Bool, true, false, cond, ◌&&◌, List, [], ◌∷◌, ◌++◌, map, Some, None, Ok, Err, Option, Result}
+use Rattle.std.specs.Prelude.{◌≡◌, ℕ, Bool, true, false, cond, ◌&&◌, List, [], ◌∷◌, ◌++◌, map, Some, None, Ok, Err, Option, Result}
+use Rattle.basis.specs.Stacks.{held}
+use Rattle.basis.specs.declared.stack.Stack.{Stack}
 use Rattle.basis.specs.declared.refusal.Refusal.{Refusal}
 use Rattle.basis.specs.declared.refusal.Refusal.TheVariants.{NoToken, Grammar, UnknownName}
 use Rattle.property.specs.declared.shape.UnaryOperator.{UnaryOperator}
@@ -19,6 +21,10 @@ use Rattle.property.specs.Machine.{operator, closes}
 abbrev pub tags : List Waiting → List Tag
 tags ws = map (λ w. w.tag) ws
 
+-- the tags on a stack, newest first
+abbrev pub waits : Stack Waiting → List Tag
+waits s = tags (held s.count s.slots.now)
+
 -- the newest that waits is a unary operator, a bracket that the middle fits, an operator that the bracket closes
 abbrev pub leading_unary : List Tag → Option UnaryOperator
 leading_unary [] = None
@@ -37,6 +43,11 @@ closed c [] = None
 closed c (Unary u ∷ ts) = None
 closed c (Left o ∷ ts) = None
 closed c (Right o ∷ ts) = cond (closes o c) (Some o) None
+
+-- what a test of the newest tag gave; nothing where nothing waits
+abbrev pub TakenBy : {X : Type 0} → (Tag → Option X → Type 0) → List Tag → Option X → Type 0
+TakenBy P [] r = r ≡ None
+TakenBy P (t ∷ ts) r = P t r
 
 -- what waits after it was taken off, or was not
 abbrev pub older_tags : List Tag → List Tag

@@ -1,10 +1,10 @@
 // Fitting tokens to the grammar with an explicit stack of waiting tokens.
-ghost use Rattle.std.specs.Prelude.{◌≡◌, ℕ, ◌+◌, ◌<◌, ◌≤◌, ◌&&◌, [], ◌∷◌, ◌++◌, length, if◌then◌else◌, Ok, Err};
-ghost use Rattle.basis.specs.Stacks.{held};
+ghost use Rattle.std.specs.Prelude.{◌≡◌, ℕ, ◌+◌, ◌<◌, ◌≤◌, ◌&&◌, [], ◌∷◌, ◌++◌, length, if◌then◌else◌, Ok, Err, false, true};
+ghost use Rattle.std.specs.Result.{result_and};
 ghost use Rattle.property.specs.Forming.{word_of};
 ghost use Rattle.property.specs.Lists.{listed};
 ghost use Rattle.property.specs.Machine.{operator, closes};
-ghost use Rattle.property.specs.Flat.{tags, leading_unary, separated, closed, dropped, rest_tags, unaries, fitted, with_state, is_none};
+ghost use Rattle.property.specs.Flat.{waits, TakenBy, leading_unary, separated, closed, dropped, rest_tags, unaries, fitted, with_state, is_none};
 ghost use Rattle.basis.specs.declared.refusal.Refusal.TheVariants.{Grammar};
 
 use crate::names::find;
@@ -31,162 +31,145 @@ fn operator_of(opening: Opening, middle: Middle) -> Option<BinaryOperator>
 fn closes_by(operator: BinaryOperator, closing: Closing) -> bool
     ensures { result ≡ closes operator closing }
 {
-    match (operator, closing) {
-        (BinaryOperator::Join(_), Closing::Round) => true,
-        (BinaryOperator::Path(_, _), Closing::Square) => true,
-        (_, _) => false,
+    matches!(
+        (operator, closing),
+        (BinaryOperator::Join(_), Closing::Round) | (BinaryOperator::Path(_, _), Closing::Square)
+    )
+}
+
+impl Tag {
+    // The unary operator that waits.
+    fn unary(self) -> Option<UnaryOperator>
+        ensures { result ≡ leading_unary (self ∷ []) }
+    {
+        match self {
+            Tag::Unary(operator) => Some(operator),
+            _ => None,
+        }
+    }
+
+    // What the middle makes of a bracket that waits for its left operand.
+    fn separated_by(self, middle: Middle) -> Option<BinaryOperator>
+        ensures { result ≡ separated middle (self ∷ []) }
+    {
+        match self {
+            Tag::Left(opening) => operator_of(opening, middle),
+            _ => None,
+        }
+    }
+
+    // The operator that waits for its right operand, if the bracket closes it.
+    fn closed_by(self, closing: Closing) -> Option<BinaryOperator>
+        ensures { result ≡ closed closing (self ∷ []) }
+    {
+        match self {
+            Tag::Right(operator) if closes_by(operator, closing) => Some(operator),
+            _ => None,
+        }
     }
 }
 
-// Takes a unary operator off, if one is the newest that waits.
-fn pop_unary(stack: &mut Stack<'_, Waiting>) -> Option<UnaryOperator>
-    ensures value { result ≡ leading_unary (tags (held stack.old.count stack.old.slots.now)) }
-    ensures rest { tags (held stack.new.count stack.new.slots.now) ≡ dropped result (tags (held stack.old.count stack.old.slots.now)) }
-    ensures room { length stack.new.slots.now ≡ length stack.old.slots.now }
-    ensures lender { stack.new.slots.ghost_name ≡ stack.old.slots.ghost_name }
-{
-    let Some(
-        Waiting {
-            tag: Tag::Unary(operator),
-            ..
-        },
-    ) = stack.top()
-    else {
-        return None;
-    };
-    let _ = stack.pop();
-    Some(operator)
-}
-
-// Takes a bracket off that waits for its left operand, if the middle fits it.
-fn pop_left(stack: &mut Stack<'_, Waiting>, middle: Middle) -> Option<BinaryOperator>
-    ensures value { result ≡ separated middle (tags (held stack.old.count stack.old.slots.now)) }
-    ensures rest { tags (held stack.new.count stack.new.slots.now) ≡ dropped result (tags (held stack.old.count stack.old.slots.now)) }
-    ensures room { length stack.new.slots.now ≡ length stack.old.slots.now }
-    ensures lender { stack.new.slots.ghost_name ≡ stack.old.slots.ghost_name }
-{
-    let Some(
-        Waiting {
-            tag: Tag::Left(opening),
-            ..
-        },
-    ) = stack.top()
-    else {
-        return None;
-    };
-    let operator = operator_of(opening, middle);
-    if operator.is_some() {
-        let _ = stack.pop();
-    }
-    operator
-}
-
-// Takes an operator off that waits for its right operand, if the bracket closes it.
-fn pop_right(stack: &mut Stack<'_, Waiting>, closing: Closing) -> Option<BinaryOperator>
-    ensures value { result ≡ closed closing (tags (held stack.old.count stack.old.slots.now)) }
-    ensures rest { tags (held stack.new.count stack.new.slots.now) ≡ dropped result (tags (held stack.old.count stack.old.slots.now)) }
-    ensures room { length stack.new.slots.now ≡ length stack.old.slots.now }
-    ensures lender { stack.new.slots.ghost_name ≡ stack.old.slots.ghost_name }
-{
-    let Some(
-        Waiting {
-            tag: Tag::Right(operator),
-            ..
-        },
-    ) = stack.top()
-    else {
-        return None;
-    };
-    if !closes_by(operator, closing) {
-        return None;
-    }
-    let _ = stack.pop();
-    Some(operator)
-}
-
-// Puts a token on the stack; there is always room.
-fn wait(stack: &mut Stack<'_, Waiting>, tag: Tag, position: usize)
-    requires { length (tags (held stack.old.count stack.old.slots.now)) < length stack.old.slots.now }
-    ensures tags { tags (held stack.new.count stack.new.slots.now) ≡ tag ∷ tags (held stack.old.count stack.old.slots.now) }
-    ensures room { length stack.new.slots.now ≡ length stack.old.slots.now }
-    ensures lender { stack.new.slots.ghost_name ≡ stack.old.slots.ghost_name }
-{
-    let _ = stack.push(Waiting { tag, position });
-}
-
-// Writes an operand's last part, and ends the unary operators that waited for it.
-fn finish_operand(part: Part, stack: &mut Stack<'_, Waiting>, parts: &mut Parts)
-    requires { length (tags (held stack.old.count stack.old.slots.now)) + length parts.old.list.items < 255 }
-    ensures tags { tags (held stack.new.count stack.new.slots.now) ≡ rest_tags (tags (held stack.old.count stack.old.slots.now)) }
-    ensures parts { parts.new.list.items ≡ parts.old.list.items ++ (part ∷ unaries (tags (held stack.old.count stack.old.slots.now))) }
-    ensures room { length stack.new.slots.now ≡ length stack.old.slots.now }
-    ensures lender { stack.new.slots.ghost_name ≡ stack.old.slots.ghost_name }
-{
-    parts.push(part);
-    while let Some(operator) = pop_unary(stack) {
-        parts.push(Part::Unary(operator));
-    }
-}
-
-// Fits one token to the grammar and looks a name up; answers whether an operand stands complete.
-pub(crate) fn fit(
-    placed: Placed<'_>,
+// A text that is fitted token by token: what waits, and whether an operand stands complete.
+#[derive(Drop)]
+pub(crate) struct Fitting<'a> {
+    waiting: Stack<'a, Waiting>,
     complete: bool,
-    names: &[u8],
-    stack: &mut Stack<'_, Waiting>,
-    parts: &mut Parts,
-) -> Result<bool, Refusal>
-    requires { (length (tags (held stack.old.count stack.old.slots.now)) + length parts.old.list.items < 255) × (length stack.old.slots.now ≡ 255) }
-    ensures value { with_state result (tags (held stack.new.count stack.new.slots.now)) parts.new.list.items ≡ fitted (listed names.now) complete (tags (held stack.old.count stack.old.slots.now)) parts.old.list.items (word_of placed.entry.token) placed.entry.position }
-    ensures room { length stack.new.slots.now ≡ length stack.old.slots.now }
-    ensures lender { stack.new.slots.ghost_name ≡ stack.old.slots.ghost_name }
-{
-    let Placed { token, position } = placed;
-    match (complete, token) {
-        (false, Token::Name(letters)) => {
-            let Some(mark) = find(names, letters) else {
-                return Err(Refusal::UnknownName(position));
-            };
-            finish_operand(Part::Name(mark), stack, parts);
-            Ok(true)
-        }
-        (false, Token::Constant(value)) => {
-            finish_operand(Part::Constant(value), stack, parts);
-            Ok(true)
-        }
-        (false, Token::Unary(operator)) => {
-            wait(stack, Tag::Unary(operator), position);
-            Ok(false)
-        }
-        (false, Token::Open(opening)) => {
-            wait(stack, Tag::Left(opening), position);
-            Ok(false)
-        }
-        (true, Token::Middle(middle)) => {
-            let Some(operator) = pop_left(stack, middle) else {
-                return Err(Refusal::Grammar(position));
-            };
-            wait(stack, Tag::Right(operator), position);
-            Ok(false)
-        }
-        (true, Token::Close(closing)) => {
-            let Some(operator) = pop_right(stack, closing) else {
-                return Err(Refusal::Grammar(position));
-            };
-            finish_operand(Part::Binary(operator), stack, parts);
-            Ok(true)
-        }
-        (_, _) => Err(Refusal::Grammar(position)),
-    }
+    ghost room: { length waiting.slots.now ≡ 255 },
 }
 
-// At the text's end an operand has to stand complete, with nothing waiting.
-pub(crate) fn finish(complete: bool, stack: &Stack<'_, Waiting>, end: usize) -> Result<(), Refusal>
-    ensures { result ≡ (if complete && is_none (tags (held stack.now.count stack.now.slots.now)) then Ok tt else Err (Grammar end)) }
-{
-    if complete && stack.top().is_none() {
+impl<'a> Fitting<'a> {
+    // Nothing waits yet; the slots are as many as a text can have tokens.
+    pub(crate) fn new(slots: &'a mut [Waiting; 255]) -> Fitting<'a>
+        ensures waiting { waits result.waiting ≡ [] }
+        ensures complete { result.complete ≡ false }
+    {
+        Fitting {
+            waiting: Stack::new(slots),
+            complete: false,
+        }
+    }
+
+    // Takes the newest that waits off, if the test finds in it what is wanted.
+    fn pop_by<T, F: FnOnce(Tag) -> Option<T>>(&mut self, test: F) -> Option<T>
+        requires { F.IsAlwaysCallable test }
+        ensures value { TakenBy (F.post test) (waits self.old.waiting) result }
+        ensures rest { waits self.new.waiting ≡ dropped result (waits self.old.waiting) }
+    {
+        let found = test(self.waiting.top()?.tag)?;
+        let _ = self.waiting.pop();
+        Some(found)
+    }
+
+    // Puts a token on the stack, and wants an operand.
+    fn wait(&mut self, tag: Tag, position: usize)
+        requires { length (waits self.old.waiting) < 255 }
+        ensures waiting { waits self.new.waiting ≡ tag ∷ waits self.old.waiting }
+        ensures complete { self.new.complete ≡ false }
+    {
+        let _ = self.waiting.push(Waiting { tag, position });
+        self.complete = false;
+    }
+
+    // Writes an operand's last part, and ends the unary operators that waited for it.
+    fn finish_operand(&mut self, part: Part, parts: &mut Parts)
+        requires { length (waits self.old.waiting) + length parts.old.list.items < 255 }
+        ensures waiting { waits self.new.waiting ≡ rest_tags (waits self.old.waiting) }
+        ensures complete { self.new.complete ≡ true }
+        ensures parts { parts.new.list.items ≡ parts.old.list.items ++ (part ∷ unaries (waits self.old.waiting)) }
+    {
+        parts.push(part);
+        while let Some(operator) = self.pop_by(Tag::unary) {
+            parts.push(Part::Unary(operator));
+        }
+        self.complete = true;
+    }
+
+    // Fits one token to the grammar and looks a name up.
+    pub(crate) fn fit(
+        &mut self,
+        placed: Placed<'_>,
+        names: &[u8],
+        parts: &mut Parts,
+    ) -> Result<(), Refusal>
+        requires { length (waits self.old.waiting) + length parts.old.list.items < 255 }
+        ensures { with_state (result_and result (Ok self.new.complete)) (waits self.new.waiting) parts.new.list.items ≡ fitted (listed names.now) self.old.complete (waits self.old.waiting) parts.old.list.items (word_of placed.entry.token) placed.entry.position }
+    {
+        let Placed { token, position } = placed;
+        match (self.complete, token) {
+            (false, Token::Name(letters)) => {
+                let Some(mark) = find(names, letters) else {
+                    return Err(Refusal::UnknownName(position));
+                };
+                self.finish_operand(Part::Name(mark), parts);
+            }
+            (false, Token::Constant(value)) => self.finish_operand(Part::Constant(value), parts),
+            (false, Token::Unary(operator)) => self.wait(Tag::Unary(operator), position),
+            (false, Token::Open(opening)) => self.wait(Tag::Left(opening), position),
+            (true, Token::Middle(middle)) => {
+                let Some(operator) = self.pop_by(|tag| tag.separated_by(middle)) else {
+                    return Err(Refusal::Grammar(position));
+                };
+                self.wait(Tag::Right(operator), position);
+            }
+            (true, Token::Close(closing)) => {
+                let Some(operator) = self.pop_by(|tag| tag.closed_by(closing)) else {
+                    return Err(Refusal::Grammar(position));
+                };
+                self.finish_operand(Part::Binary(operator), parts);
+            }
+            (_, _) => return Err(Refusal::Grammar(position)),
+        }
         Ok(())
-    } else {
-        Err(Refusal::Grammar(end))
+    }
+
+    // At the text's end an operand has to stand complete, with nothing waiting.
+    pub(crate) fn finish(&self, end: usize) -> Result<(), Refusal>
+        ensures { result ≡ (if self.now.complete && is_none (waits self.now.waiting) then Ok tt else Err (Grammar end)) }
+    {
+        if self.complete && self.waiting.top().is_none() {
+            Ok(())
+        } else {
+            Err(Refusal::Grammar(end))
+        }
     }
 }

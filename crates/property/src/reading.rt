@@ -8,14 +8,13 @@ ghost use Rattle.property.specs.Reading.{reading, fits_length, outcome, parts_of
 ghost use Rattle.property.specs.Laws.{Reads};
 ghost use Rattle.property.specs.Flat.{fit_all, with_parts, as_parts};
 
-use crate::grammar::{finish, fit};
+use crate::grammar::Fitting;
 use crate::names::check_names;
 use crate::postfix::Parts;
 use crate::reader::TokenReader;
 use crate::shape::{Tag, UnaryOperator, Waiting};
 use crate::tokens::Placed;
 use basis::Refusal;
-use basis::stack::Stack;
 
 // Reads a text over the names of so many marks. The parts are those of its tree, in postfix order; after a refusal there
 // are none.
@@ -50,7 +49,7 @@ fn read_checked(names: &[u8], marks: usize, text: &[u8], parts: &mut Parts) -> R
 fn fits(text: &[u8]) -> bool
     ensures { result ≡ fits_length text.now }
 {
-    1 <= text.len() && text.len() <= 255
+    (1..=255).contains(&text.len())
 }
 
 // Takes token after token, and leaves with the first fault of forming, fitting or look-up.
@@ -62,14 +61,13 @@ fn read_text(names: &[u8], text: &[u8], parts: &mut Parts) -> Result<(), Refusal
         tag: Tag::Unary(UnaryOperator::Not),
         position: 0,
     }; 255];
-    let mut stack = Stack::new(&mut slots);
+    let mut fitting = Fitting::new(&mut slots);
     let mut reader = TokenReader::new(text);
-    let mut complete = false;
     loop {
         let Some(placed) = reader.next()? else {
             break;
         };
-        complete = fit(placed, complete, names, &mut stack, parts)?;
+        fitting.fit(placed, names, parts)?;
     }
-    finish(complete, &stack, text.len())
+    fitting.finish(text.len())
 }

@@ -10,33 +10,31 @@ returns-in_err-placed c =
     let p = err_from_is_err_and c.from_residual.result c.from_residual.ensures.1 in
     let i = c.loop-placed.invariant in
     ap (λ x. with_parts x (vec_items c.loop-placed.parts.list)) p.1
-    ∙ (ap Err p.2 ∙ turn-fault _ _ _ _ _ _ i.0 i.1.0 i.1.1.0 _ c.in_err-placed.ensures.value)
+    ∙ (ap Err p.2 ∙ turn-fault _ _ _ _ _ _ i.0 i.1.0 i.1.1 _ c.in_err-placed.ensures.value)
 
 pub fit-requires : goal.fit-requires
 fit-requires c =
-    let i = c.loop-placed.invariant in (
-      turn-room _ _ _ _ _ _ i.0 i.1.0 i.1.1.0 _ _
-          (ap (λ o. viewed (Ok o)) (sym c.in-Some.is) ∙ c.in_ok-placed.ensures.value)
-          c.requires.0,
-      i.1.1.1,
-    )
+    let i = c.loop-placed.invariant in
+    turn-room _ _ _ _ _ _ i.0 i.1.0 i.1.1 _ _
+    (ap (λ o. viewed (Ok o)) (sym c.in-Some.is) ∙ c.in_ok-placed.ensures.value)
+    c.requires.0
 
-pub returns-in_err-complete : goal.returns-in_err-complete
-returns-in_err-complete c =
-    let p = err_from_is_err_and c.from_residual-in_err-complete.result c.from_residual-in_err-complete.ensures.1 in
+pub returns-in_err-fit : goal.returns-in_err-fit
+returns-in_err-fit c =
+    let p = err_from_is_err_and c.from_residual-in_err-fit.result c.from_residual-in_err-fit.ensures.1 in
     let i = c.loop-placed.invariant in
     ap (λ x. with_parts x (vec_items c.fit.new.parts.list)) p.1
     ∙ (ap Err p.2
-    ∙ turn-refused _ _ _ _ _ _ i.0 i.1.0 i.1.1.0 _ _ _
+    ∙ turn-refused _ _ _ _ _ _ i.0 i.1.0 i.1.1 _ _ _
     (ap (λ o. viewed (Ok o)) (sym c.in-Some.is) ∙ c.in_ok-placed.ensures.value)
-    c.in_err-complete.ensures.value)
+    c.in_err-fit.ensures)
 
 pub loop-placed-smaller : goal.loop-placed-smaller
 loop-placed-smaller c =
     let i = c.loop-placed.invariant in
-    (turn_on _ _ _ _ _ _ i.0 i.1.0 i.1.1.0 _ _ _ _ _
+    (turn_on _ _ _ _ _ _ i.0 i.1.0 i.1.1 _ _ _ _ _
     (ap (λ o. viewed (Ok o)) (sym c.in-Some.is) ∙ c.in_ok-placed.ensures.value)
-    c.in_ok-complete.ensures.value
+    c.in_ok-fit.ensures
     c.in_ok-placed.ensures.place
     c.in_ok-placed.ensures.unread
     ).1.1.1
@@ -45,16 +43,16 @@ pub loop-placed-preserved : goal.loop-placed-preserved
 loop-placed-preserved c =
     let i = c.loop-placed.invariant in
     let t =
-    turn_on _ _ _ _ _ _ i.0 i.1.0 i.1.1.0 _ _ _ _ _
+    turn_on _ _ _ _ _ _ i.0 i.1.0 i.1.1 _ _ _ _ _
     (ap (λ o. viewed (Ok o)) (sym c.in-Some.is) ∙ c.in_ok-placed.ensures.value)
-    c.in_ok-complete.ensures.value
+    c.in_ok-fit.ensures
     c.in_ok-placed.ensures.place
     c.in_ok-placed.ensures.unread
-    in (t.0, (t.1.0, (t.1.1.0, c.in_ok-complete.ensures.room ∙ i.1.1.1)))
+    in (t.0, (t.1.0, t.1.1.0))
 
 pub returns : goal.returns
 returns c =
     let i = c.loop-placed.invariant in
-    turn_end _ _ _ _ _ _ i.0 i.1.0 i.1.1.0 _
+    turn_end _ _ _ _ _ _ i.0 i.1.0 i.1.1 _
     (ap (λ o. viewed (Ok o)) (sym c.in_default.is) ∙ c.in_ok-placed.ensures.value)
     c.finish.ensures
