@@ -21,36 +21,6 @@ use Rattle.property.specs.Machine.{Frame, over, left, right, State, want, have, 
 use Rattle.property.specs.Reading.{finish, read_on, mark_of}
 use Rattle.property.specs.Flat.{leading_unary, older_tags, rest_tags, unaries, Fitted, named, fitted, is_none, onward, fit_all}
 
--- one unary operator ends
-taken_is : (ts : List Tag) (u : UnaryOperator) → Some u ≡ leading_unary ts → ts ≡ Unary u ∷ older_tags ts
-taken_is [] u e = absurd (let z : ◌≡◌ {A = ℕ} 0 1 = cc in omega arith)
-taken_is (Unary v ∷ ts) u e = ap (λ x. Unary x ∷ ts) (let h : v ≡ u = cc in h)
-taken_is (Left o ∷ ts) u e = absurd (let z : ◌≡◌ {A = ℕ} 0 1 = cc in omega arith)
-taken_is (Right o ∷ ts) u e = absurd (let z : ◌≡◌ {A = ℕ} 0 1 = cc in omega arith)
-
-pub one-ends :
-    (ts ts' : List Tag) (u : UnaryOperator) (ps ps' : List Part) → Some u ≡ leading_unary ts → ts' ≡ older_tags ts
-    → ps' ≡ ps ++ (UnaryPart u ∷ [])
-    → (rest_tags ts' ≡ rest_tags ts) × ((ps' ++ unaries ts' ≡ ps ++ unaries ts) × (length ts' + length ps' ≡ length ts + length ps))
-one-ends ts ts' u ps ps' e f g =
-    let t : ts ≡ Unary u ∷ ts' = taken_is ts u e ∙ ap (λ x. Unary u ∷ x) (sym f) in
-    let a = ap length t in
-    let b = ap length g in
-    let c = length_push ps (UnaryPart u) in (
-      sym (ap rest_tags t),
-      (
-        ap (λ x. x ++ unaries ts') g
-            ∙ (append_assoc ps (UnaryPart u ∷ []) (unaries ts') ∙ ap (λ x. ps ++ unaries x) (sym t)),
-        omega arith,
-      ),
-    )
-
-pub none-ends : (ts : List Tag) → None ≡ leading_unary ts → (rest_tags ts ≡ ts) × (unaries ts ≡ [])
-none-ends [] e = (refl, refl)
-none-ends (Unary v ∷ ts) e = absurd (let z : ◌≡◌ {A = ℕ} 0 1 = cc in omega arith)
-none-ends (Left o ∷ ts) e = (refl, refl)
-none-ends (Right o ∷ ts) e = (refl, refl)
-
 -- what the machine's frames are as tags, and the parts written for them
 abbrev tag_of : Frame → Tag
 tag_of (over u) = Unary u

@@ -112,10 +112,10 @@ impl<'a> Fitting<'a> {
 
     // Writes an operand's last part, and ends the unary operators that waited for it.
     fn finish_operand(&mut self, part: Part, parts: &mut Parts)
-        requires { length (waits self.old.waiting) + length parts.old.list.items < 255 }
+        requires { length (waits self.old.waiting) + length parts.old.list < 255 }
         ensures waiting { waits self.new.waiting ≡ rest_tags (waits self.old.waiting) }
         ensures complete { self.new.complete ≡ true }
-        ensures parts { parts.new.list.items ≡ parts.old.list.items ++ (part ∷ unaries (waits self.old.waiting)) }
+        ensures parts { parts.new.list ≡ parts.old.list ++ (part ∷ unaries (waits self.old.waiting)) }
     {
         parts.push(part);
         while let Some(operator) = self.pop_by(Tag::unary) {
@@ -131,8 +131,8 @@ impl<'a> Fitting<'a> {
         names: &[u8],
         parts: &mut Parts,
     ) -> Result<(), Refusal>
-        requires { length (waits self.old.waiting) + length parts.old.list.items < 255 }
-        ensures { with_state (result_and result (Ok self.new.complete)) (waits self.new.waiting) parts.new.list.items ≡ fitted (listed names.now) self.old.complete (waits self.old.waiting) parts.old.list.items (word_of placed.entry.token) placed.entry.position }
+        requires { length (waits self.old.waiting) + length parts.old.list < 255 }
+        ensures { with_state (result_and result (Ok self.new.complete)) (waits self.new.waiting) parts.new.list ≡ fitted (listed names.now) self.old.complete (waits self.old.waiting) parts.old.list (word_of placed.entry.token) placed.entry.position }
     {
         let Placed { token, position } = placed;
         match (self.complete, token) {

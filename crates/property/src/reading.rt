@@ -20,9 +20,9 @@ use basis::Refusal;
 // are none.
 pub fn read(names: &[u8], marks: usize, text: &[u8], parts: &mut Parts) -> Result<(), Refusal>
     ensures value { result ≡ outcome (reading names.now marks text.now) }
-    ensures parts { parts.new.list.items ≡ parts_of (reading names.now marks text.now) }
-    ensures few { length parts.new.list.items ≤ 255 }
-    ensures tree { (t : Syntax ℕ) → reading names.now marks text.now ≡ Ok t → built [] parts.new.list.items ≡ t ∷ [] }
+    ensures parts { parts.new.list ≡ parts_of (reading names.now marks text.now) }
+    ensures few { length parts.new.list ≤ 255 }
+    ensures tree { (t : Syntax ℕ) → reading names.now marks text.now ≡ Ok t → built [] parts.new.list ≡ t ∷ [] }
     ensures meaning { Reads names.now marks text.now (reading names.now marks text.now) }
     ensures only { (x : Result (Syntax ℕ) Refusal) → Reads names.now marks text.now x → x ≡ reading names.now marks text.now }
 {
@@ -35,7 +35,7 @@ pub fn read(names: &[u8], marks: usize, text: &[u8], parts: &mut Parts) -> Resul
 
 // First the list of names, then the text's length, then the text.
 fn read_checked(names: &[u8], marks: usize, text: &[u8], parts: &mut Parts) -> Result<(), Refusal>
-    ensures { with_parts result parts.new.list.items ≡ as_parts (reading names.now marks text.now) }
+    ensures { with_parts result parts.new.list ≡ as_parts (reading names.now marks text.now) }
 {
     check_names(names, marks)?;
     if !fits(text) {
@@ -54,8 +54,8 @@ fn fits(text: &[u8]) -> bool
 
 // Takes token after token, and leaves with the first fault of forming, fitting or look-up.
 fn read_text(names: &[u8], text: &[u8], parts: &mut Parts) -> Result<(), Refusal>
-    requires { (length text.now ≤ 255) × (parts.old.list.items ≡ []) }
-    ensures { with_parts result parts.new.list.items ≡ fit_all (listed names.now) (false, ([], [])) (scan 0 0 text.now) }
+    requires { (length text.now ≤ 255) × (parts.old.list ≡ []) }
+    ensures { with_parts result parts.new.list ≡ fit_all (listed names.now) (false, ([], [])) (scan 0 0 text.now) }
 {
     let mut slots = [Waiting {
         tag: Tag::Unary(UnaryOperator::Not),

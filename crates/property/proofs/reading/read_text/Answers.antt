@@ -1,4 +1,4 @@
-use Rattle.std.proofs.Common.{Ok, Err, vec_items, sym, ap, ◌∙◌}
+use Rattle.std.proofs.Common.{Ok, Err, sym, ap, ◌∙◌}
 use Rattle.std.proofs.lemmas.Result.{err_from_is_err_and}
 use Rattle.property.specs.Forming.{viewed}
 use Rattle.property.specs.Flat.{with_parts}
@@ -9,7 +9,7 @@ pub returns-in_err-placed : goal.returns-in_err-placed
 returns-in_err-placed c =
     let p = err_from_is_err_and c.from_residual.result c.from_residual.ensures.1 in
     let i = c.loop-placed.invariant in
-    ap (λ x. with_parts x (vec_items c.loop-placed.parts.list)) p.1
+    ap (λ x. with_parts x c.loop-placed.parts.list) p.1
     ∙ (ap Err p.2 ∙ turn-fault _ _ _ _ _ _ i.0 i.1.0 i.1.1 _ c.in_err-placed.ensures.value)
 
 pub fit-requires : goal.fit-requires
@@ -23,7 +23,7 @@ pub returns-in_err-fit : goal.returns-in_err-fit
 returns-in_err-fit c =
     let p = err_from_is_err_and c.from_residual-in_err-fit.result c.from_residual-in_err-fit.ensures.1 in
     let i = c.loop-placed.invariant in
-    ap (λ x. with_parts x (vec_items c.fit.new.parts.list)) p.1
+    ap (λ x. with_parts x c.fit.new.parts.list) p.1
     ∙ (ap Err p.2
     ∙ turn-refused _ _ _ _ _ _ i.0 i.1.0 i.1.1 _ _ _
     (ap (λ o. viewed (Ok o)) (sym c.in-Some.is) ∙ c.in_ok-placed.ensures.value)
