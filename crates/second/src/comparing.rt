@@ -1,26 +1,24 @@
 // Everything that is compared on one chart: texts are entered on a sheet, which is finished; the book's answers and paths
 // are held to the second checker's; and on another sheet rounds are made one by one.
-use crate::answers::{compare_answers, compare_rounds};
-use crate::decision::decide;
-use crate::kind::Kind;
-use crate::log::{Asked, Difference, Log, Subject};
-use crate::paths::compare_paths;
+use crate::difference::Difference;
+use crate::graph::Graph;
+use crate::log::{Log, Subject, Trial};
 use crate::random::Random;
 use crate::stop::Stop;
-use crate::texts::{draw_text, names};
+use crate::texts::draw_text;
 use basis::Refusal;
 use chart::Chart;
 use property::{Parts, read};
 use sheet::{Book, Sheet};
-use std::alloc::{AllocError, Global};
+use std::alloc::AllocError;
 
-// The number and kind of a chart, how many texts it is given, and how many parts they mostly have.
-#[derive(Clone, Copy)]
-pub(crate) struct Trial {
-    pub(crate) chart: u32,
-    pub(crate) kind: Kind,
-    pub(crate) texts: u8,
-    pub(crate) few: u16,
+// What is compared on one chart: its graph, the names of its marks, and where it is noted.
+#[derive(Drop)]
+pub(crate) struct Comparison<'a, C> {
+    pub(crate) graph: Graph<'a, C>,
+    pub(crate) trial: Trial,
+    pub(crate) names: &'a str,
+    pub(crate) log: &'a mut Log,
 }
 
 // A text on a sheet, and the line that it was answered.
@@ -30,140 +28,91 @@ struct Entry {
     line: usize,
 }
 
-fn blank<'a, C: Chart>(heap: Global, chart: &'a C) -> Result<Sheet<&'a C>, Stop> {
-    match Sheet::new(heap, chart) {
-        Ok(sheet) => Ok(sheet),
-        Err(_) => Err(Stop::Memory),
+impl Entry {
+    fn subject(&self, trial: Trial) -> Subject<'_> {
+        Subject {
+            trial,
+            text: self.text.as_str(),
+            line: self.line,
+        }
     }
 }
 
-// Enters random texts; a text for which there is no room is let go.
-fn enter_texts<C: Chart>(
-    heap: Global,
-    random: &mut Random,
-    trial: Trial,
-    names: &str,
-    chart: &C,
-    sheet: &mut Sheet<&C>,
-    log: &mut Log,
-) -> Result<Vec<Entry>, Stop> {
-    let mut entries = Vec::new(heap);
-    for _ in 0..trial.texts {
-        let text = draw_text(heap, random, chart.marks(), trial.few)?;
-        match sheet.enter(names.as_bytes(), text.as_bytes()) {
-            Ok(line) => {
-                log.texts = log.texts.saturating_add(1);
-                keep(&mut entries, Entry { text, line })?;
+impl<'a, C: Chart> Comparison<'a, C> {
+    fn blank(&self) -> Result<Sheet<&'a C>, Stop> {
+        Sheet::new(self.graph.heap, self.graph.chart).map_err(|_| Stop::Memory)
+    }
+
+    // Enters random texts; a text for which there is no room is let go.
+    fn enter_texts(
+        &mut self,
+        random: &mut Random,
+        sheet: &mut Sheet<&C>,
+    ) -> Result<Vec<Entry>, Stop> {
+        let Trial { texts, few, .. } = self.trial;
+        let mut entries = Vec::new(self.graph.heap);
+        for _ in 0..texts {
+            let text = draw_text(self.graph.heap, random, self.graph.chart.marks(), few)?;
+            match sheet.enter(self.names.as_bytes(), text.as_bytes()) {
+                Ok(line) => {
+                    self.log.texts = self.log.texts.saturating_add(1);
+                    entries.push(Entry { text, line }).map_err(AllocError::from)?;
+                }
+                Err(Refusal::SheetFull) => {
+                    self.log.skipped = self.log.skipped.saturating_add(1);
+                }
+                Err(refusal) => return Err(Stop::Refused(refusal)),
             }
-            Err(Refusal::SheetFull) => log.skipped = log.skipped.saturating_add(1),
-            Err(refusal) => return Err(Stop::Refused(refusal)),
         }
+        Ok(entries)
     }
-    Ok(entries)
-}
 
-fn keep(entries: &mut Vec<Entry>, entry: Entry) -> Result<(), AllocError> {
-    entries.push(entry)?;
-    Ok(())
-}
-
-// Enters the same texts again, on another sheet; each has the same line.
-fn enter_again<C: Chart>(
-    heap: Global,
-    trial: Trial,
-    names: &str,
-    entries: &[Entry],
-    sheet: &mut Sheet<&C>,
-    log: &mut Log,
-) -> Result<(), Stop> {
-    for entry in entries {
-        let line = sheet.enter(names.as_bytes(), entry.text.as_bytes())?;
-        if line != entry.line {
-            let difference = Difference {
-                asked: Asked::Entry,
-                mode: 0,
-                expected: "the same line",
-                told: "another line",
-            };
-            log.differ(heap, subject_of(trial, entry), difference)?;
+    // Enters the same texts again, on another sheet; each has the same line.
+    fn enter_again(&mut self, entries: &[Entry], sheet: &mut Sheet<&C>) -> Result<(), Stop> {
+        for entry in entries {
+            let line = sheet.enter(self.names.as_bytes(), entry.text.as_bytes())?;
+            if line != entry.line {
+                self.log
+                    .differ(entry.subject(self.trial), 0, Difference::Line)?;
+            }
         }
+        Ok(())
     }
-    Ok(())
-}
 
-fn subject_of<'a>(trial: Trial, entry: &'a Entry) -> Subject<'a> {
-    Subject {
-        chart: trial.chart,
-        kind: trial.kind,
-        text: entry.text.as_str(),
-        line: entry.line,
-    }
-}
-
-// The book's answers and paths for one text.
-fn compare_entry<C: Chart>(
-    heap: Global,
-    names: &str,
-    chart: &C,
-    book: &mut Book<&C>,
-    subject: Subject<'_>,
-    log: &mut Log,
-) -> Result<(), Stop> {
-    let mut parts = Parts::new(heap)?;
-    read(
-        names.as_bytes(),
-        chart.marks(),
-        subject.text.as_bytes(),
-        &mut parts,
-    )?;
-    let Some(decision) = decide(heap, chart, parts.as_slice())? else {
-        let difference = Difference {
-            asked: Asked::Entry,
-            mode: 0,
-            expected: "the parts of a property",
-            told: "others",
+    // The book's answers and paths for one text.
+    fn compare_entry(&mut self, book: &mut Book<&C>, subject: Subject<'_>) -> Result<(), Stop> {
+        let mut parts = Parts::new(self.graph.heap)?;
+        read(
+            self.names.as_bytes(),
+            self.graph.chart.marks(),
+            subject.text.as_bytes(),
+            &mut parts,
+        )?;
+        let Some(decision) = self.graph.decide(parts.as_slice())? else {
+            self.log.differ(subject, 0, Difference::Parts)?;
+            return Ok(());
         };
-        log.differ(heap, subject, difference)?;
-        return Ok(());
-    };
-    compare_answers(heap, chart, book, subject, &decision, log)?;
-    compare_paths(heap, chart, book, subject, &decision, log)?;
-    Ok(())
-}
-
-// The answers after each single round on another sheet; a disagreement is told with the last text.
-fn compare_again<C: Chart>(
-    heap: Global,
-    trial: Trial,
-    names: &str,
-    chart: &C,
-    book: &Book<&C>,
-    entries: &[Entry],
-    log: &mut Log,
-) -> Result<(), Stop> {
-    let mut sheet = blank(heap, chart)?;
-    enter_again(heap, trial, names, entries, &mut sheet, log)?;
-    if let Some(entry) = entries.last() {
-        let subject = subject_of(trial, entry);
-        compare_rounds(heap, chart, &mut sheet, book, subject, log)?;
+        self.compare_answers(book, subject, &decision)?;
+        self.compare_paths(book, subject, &decision)
     }
-    Ok(())
-}
 
-pub(crate) fn compare<C: Chart>(
-    heap: Global,
-    random: &mut Random,
-    trial: Trial,
-    chart: &C,
-    log: &mut Log,
-) -> Result<(), Stop> {
-    let names = names(heap, chart.marks())?;
-    let mut sheet = blank(heap, chart)?;
-    let entries = enter_texts(heap, random, trial, names.as_str(), chart, &mut sheet, log)?;
-    let mut book = sheet.finish();
-    for entry in &entries {
-        let subject = subject_of(trial, entry);
-        compare_entry(heap, names.as_str(), chart, &mut book, subject, log)?;
+    // The answers after each single round on another sheet; a disagreement is told with the last text.
+    fn compare_again(&mut self, book: &Book<&C>, entries: &[Entry]) -> Result<(), Stop> {
+        let mut sheet = self.blank()?;
+        self.enter_again(entries, &mut sheet)?;
+        if let Some(entry) = entries.last() {
+            self.compare_rounds(&mut sheet, book, entry.subject(self.trial))?;
+        }
+        Ok(())
     }
-    compare_again(heap, trial, names.as_str(), chart, &book, &entries, log)
+
+    pub(crate) fn compare(&mut self, random: &mut Random) -> Result<(), Stop> {
+        let mut sheet = self.blank()?;
+        let entries = self.enter_texts(random, &mut sheet)?;
+        let mut book = sheet.finish();
+        for entry in &entries {
+            self.compare_entry(&mut book, entry.subject(self.trial))?;
+        }
+        self.compare_again(&book, &entries)
+    }
 }

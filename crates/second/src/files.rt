@@ -56,111 +56,108 @@ fn draw_density(random: &mut Random) -> Density {
     }
 }
 
-// A plan with exactly so many modes.
-pub(crate) fn plan_of(random: &mut Random, modes: u16, most: Most) -> Plan {
-    let marks = random.within(0, u16::from(most.marks).saturating_add(1));
-    let width = random.within(1, u16::from(most.width).saturating_add(1));
-    Plan {
-        modes,
-        marks: (marks & 0xFF) as u8,
-        width: (width & 0xFF) as u8,
-        lead: draw_lead(random),
-        density: draw_density(random),
+impl Plan {
+    // With exactly so many modes.
+    pub(crate) fn of(random: &mut Random, modes: u16, most: Most) -> Plan {
+        let marks = random.within(0, u16::from(most.marks).saturating_add(1));
+        let width = random.within(1, u16::from(most.width).saturating_add(1));
+        Plan {
+            modes,
+            marks: (marks & 0xFF) as u8,
+            width: (width & 0xFF) as u8,
+            lead: draw_lead(random),
+            density: draw_density(random),
+        }
+    }
+
+    pub(crate) fn draw(random: &mut Random, most: Most) -> Plan {
+        let modes = random.within(1, most.modes.saturating_add(1));
+        Plan::of(random, modes, most)
+    }
+
+    // A bit for each mark of the chart.
+    fn draw_marks(&self, random: &mut Random) -> u16 {
+        let bits = match self.density {
+            Density::Seldom => random.bits() & random.bits() & random.bits(),
+            Density::Evenly => random.bits(),
+            Density::Mostly => random.bits() | random.bits() | random.bits(),
+        };
+        let ones = 1u32.wrapping_shl(u32::from(self.marks)).wrapping_sub(1);
+        bits & (ones & 0xFFFF) as u16
+    }
+
+    fn draw_way(&self, random: &mut Random, mode: u16) -> u16 {
+        match self.lead {
+            Lead::Anywhere => random.below(self.modes),
+            Lead::Near => mode
+                .saturating_add(random.below(6))
+                .saturating_add(self.modes)
+                .saturating_sub(2)
+                .checked_rem(self.modes)
+                .unwrap_or(0),
+            Lead::Onward if random.once_in(10) => random.below(self.modes),
+            Lead::Onward => random.within(mode, self.modes),
+        }
     }
 }
 
-pub(crate) fn draw_plan(random: &mut Random, most: Most) -> Plan {
-    let modes = random.within(1, most.modes.saturating_add(1));
-    plan_of(random, modes, most)
+// A chart file that is being written.
+#[derive(Drop)]
+struct Draft {
+    plan: Plan,
+    file: Vec<u8>,
 }
 
-// Two bytes, the high one first.
-fn put(file: &mut Vec<u8>, number: u16) -> Result<(), AllocError> {
-    file.extend_from_slice(&number.to_be_bytes())
-}
+impl Draft {
+    // Two bytes, the high one first.
+    fn put(&mut self, number: u16) -> Result<(), AllocError> {
+        self.file.extend_from_slice(&number.to_be_bytes())
+    }
 
-fn put_header(random: &mut Random, plan: Plan, file: &mut Vec<u8>) -> Result<(), AllocError> {
-    file.extend_from_slice(b"MCH\x00\x01")?;
-    put(file, plan.modes)?;
-    file.extend_from_slice(&[plan.marks, plan.width])?;
-    put(file, random.below(plan.modes))?;
-    file.extend_from_slice(&[0])
-}
+    fn put_header(&mut self, random: &mut Random) -> Result<(), AllocError> {
+        let Plan {
+            modes,
+            marks,
+            width,
+            ..
+        } = self.plan;
+        self.file.extend_from_slice(b"MCH\x00\x01")?;
+        self.put(modes)?;
+        self.file.extend_from_slice(&[marks, width])?;
+        self.put(random.below(modes))?;
+        self.file.extend_from_slice(&[0])
+    }
 
-// A bit for each mark of the chart.
-fn draw_marks(random: &mut Random, plan: Plan) -> u16 {
-    let bits = match plan.density {
-        Density::Seldom => random.bits() & random.bits() & random.bits(),
-        Density::Evenly => random.bits(),
-        Density::Mostly => random.bits() | random.bits() | random.bits(),
-    };
-    let ones = 1u32.wrapping_shl(u32::from(plan.marks)).wrapping_sub(1);
-    bits & (ones & 0xFFFF) as u16
-}
-
-// The remainder; 0 where the divisor is 0.
-fn remainder(number: u16, divisor: u16) -> u16
-    ensures { 0 < divisor → result < divisor }
-{
-    if divisor == 0 { 0 } else { number % divisor }
-}
-
-fn draw_way(random: &mut Random, plan: Plan, mode: u16) -> u16 {
-    match plan.lead {
-        Lead::Anywhere => random.below(plan.modes),
-        Lead::Near => {
-            let ahead = mode.saturating_add(random.below(6));
-            remainder(
-                ahead.saturating_add(plan.modes).saturating_sub(2),
-                plan.modes,
-            )
-        }
-        Lead::Onward => {
-            if random.once_in(10) {
-                random.below(plan.modes)
+    // The ways in order, and then FFFF in the places that are left.
+    fn put_ways(&mut self, random: &mut Random, mode: u16, degree: u16) -> Result<(), AllocError> {
+        for place in 0..u16::from(self.plan.width) {
+            self.put(if place < degree {
+                self.plan.draw_way(random, mode)
             } else {
-                random.within(mode, plan.modes)
-            }
+                0xFFFF
+            })?;
         }
+        Ok(())
     }
-}
 
-// The ways in order, and then FFFF in the places that are left.
-fn put_ways(
-    random: &mut Random,
-    plan: Plan,
-    mode: u16,
-    degree: u16,
-    file: &mut Vec<u8>,
-) -> Result<(), AllocError> {
-    for place in 0..u16::from(plan.width) {
-        if place < degree {
-            put(file, draw_way(random, plan, mode))?;
-        } else {
-            put(file, 0xFFFF)?;
-        }
+    fn put_record(&mut self, random: &mut Random, mode: u16) -> Result<(), AllocError> {
+        let degree = random.within(1, u16::from(self.plan.width).saturating_add(1));
+        self.put(self.plan.draw_marks(random))?;
+        self.file.extend_from_slice(&[(degree & 0xFF) as u8, 0])?;
+        self.put_ways(random, mode, degree)
     }
-    Ok(())
-}
-
-fn put_record(
-    random: &mut Random,
-    plan: Plan,
-    mode: u16,
-    file: &mut Vec<u8>,
-) -> Result<(), AllocError> {
-    let degree = random.within(1, u16::from(plan.width).saturating_add(1));
-    put(file, draw_marks(random, plan))?;
-    file.extend_from_slice(&[(degree & 0xFF) as u8, 0])?;
-    put_ways(random, plan, mode, degree, file)
 }
 
 fn file_of(heap: Global, random: &mut Random, plan: Plan) -> Result<Vec<u8>, AllocError> {
-    let mut file = Vec::new(heap);
-    put_header(random, plan, &mut file)?;
+    let mut draft = Draft {
+        plan,
+        file: Vec::new(heap),
+    };
+    draft.put_header(random)?;
     for mode in 0..plan.modes {
-        put_record(random, plan, mode, &mut file)?;
+        draft.put_record(random, mode)?;
     }
+    let Draft { file, .. } = draft;
     Ok(file)
 }
 

@@ -1,7 +1,18 @@
 // Going through the graph of a chart: the path of fewest modes to a set of modes, and whether there is a circle.
+ghost use Rattle.std.specs.Prelude.{◌≤◌};
+ghost use Rattle.second.specs.Absent.{absent};
+
 use crate::modes::Modes;
 use chart::Chart;
 use std::alloc::{AllocError, Global};
+use std::collections::VecDeque;
+
+// A chart's graph, and where going through it takes its memory.
+#[derive_where(Clone, Copy)]
+pub(crate) struct Graph<'a, C> {
+    pub(crate) heap: Global,
+    pub(crate) chart: &'a C,
+}
 
 // A mode that was reached, and how many modes its path has.
 #[derive(Clone, Copy)]
@@ -10,156 +21,110 @@ struct Reached {
     modes: usize,
 }
 
-// Puts the modes one way on at the end of the queue, but for those that were in it.
-fn follow<C: Chart>(
-    chart: &C,
-    here: Reached,
-    seen: &mut Modes,
-    queue: &mut Vec<Reached>,
-) -> Result<(), AllocError> {
-    for place in 0..chart.degree(here.mode) {
-        let Some(mode) = chart.way(here.mode, place) else {
-            break;
-        };
-        if !seen.has(mode) {
-            seen.insert(mode);
-            let modes = here.modes.saturating_add(1);
-            queue.push(Reached { mode, modes })?;
-        }
-    }
-    Ok(())
-}
-
-// How many modes a path from a mode to the target has at the fewest, if there is one: all its modes but the last are in
-// `through`. Breadth first.
-pub(crate) fn fewest<C: Chart>(
-    heap: Global,
-    chart: &C,
-    through: &Modes,
-    target: &Modes,
-    mode: u16,
-) -> Result<Option<usize>, AllocError> {
-    let mut seen = Modes::uniform(heap, chart.modes(), false)?;
-    let mut queue = Vec::new(heap);
-    seen.insert(mode);
-    queue.push(Reached { mode, modes: 1 })?;
-    for place in 0..chart.modes() {
-        let Some(here) = queue.get(place as usize).copied() else {
-            break;
-        };
-        if target.has(here.mode) {
-            return Ok(Some(here.modes));
-        }
-        if through.has(here.mode) {
-            follow(chart, here, &mut seen, &mut queue)?;
-        }
-    }
-    Ok(None)
-}
-
-// A mode that was not come to, one that the descent is below, and one that it is done with.
-#[derive(Clone, Copy)]
-enum Colour {
-    Fresh,
-    Open,
-    Done,
-}
-
-// A mode on the way down, and the place of its way that is to be taken next.
-#[derive(Clone, Copy)]
-struct Visit {
-    mode: u16,
-    place: usize,
-}
-
-// The modes on the way down, and the colour of every mode.
+// A search breadth first: the modes that were reached, and those of them that were not gone on from.
 #[derive(Drop)]
-struct Descent {
-    visits: Vec<Visit>,
-    colours: Vec<Colour>,
+struct Search {
+    seen: Modes,
+    queue: VecDeque<Reached>,
 }
 
-impl Descent {
-    fn new(heap: Global, count: u16) -> Result<Descent, AllocError> {
-        let colours = vec![in heap; Colour::Fresh; count as usize]?;
-        let visits = Vec::new(heap);
-        Ok(Descent { visits, colours })
-    }
-
-    fn colour(&self, mode: u16) -> Colour {
-        self.colours
-            .get(mode as usize)
-            .copied()
-            .unwrap_or(Colour::Done)
-    }
-
-    fn paint(&mut self, mode: u16, colour: Colour) {
-        let place = mode as usize;
-        if place < self.colours.len() {
-            self.colours[place] = colour;
+impl Search {
+    // Puts a mode at the end of the queue, but for one that was in it.
+    fn reach(&mut self, mode: u16, modes: usize) -> Result<(), AllocError> {
+        if self.seen.insert(mode) {
+            self.queue.push_back(Reached { mode, modes })?;
         }
-    }
-
-    // Goes down to a mode.
-    fn enter(&mut self, mode: u16) -> Result<(), AllocError> {
-        self.paint(mode, Colour::Open);
-        self.visits.push(Visit { mode, place: 0 })?;
         Ok(())
     }
 
-    // Whether the way to a mode closes a circle; a fresh mode is gone down to.
-    fn meet(&mut self, mode: u16) -> Result<bool, AllocError> {
-        match self.colour(mode) {
-            Colour::Open => return Ok(true),
-            Colour::Fresh => self.enter(mode)?,
-            Colour::Done => {}
+    // Reaches the modes one way on.
+    fn follow<C: Chart>(&mut self, chart: &C, here: Reached) -> Result<(), AllocError> {
+        for place in 0..chart.degree(here.mode) {
+            if let Some(mode) = chart.way(here.mode, place) {
+                self.reach(mode, here.modes.saturating_add(1))?;
+            }
         }
-        Ok(false)
-    }
-
-    // Takes the next way out of a visited mode; whether it closes a circle.
-    fn step<C: Chart>(
-        &mut self,
-        chart: &C,
-        through: &Modes,
-        visit: Visit,
-    ) -> Result<bool, AllocError> {
-        let Some(next) = chart.way(visit.mode, visit.place) else {
-            self.paint(visit.mode, Colour::Done);
-            return Ok(false);
-        };
-        let place = visit.place.saturating_add(1);
-        self.visits.push(Visit {
-            mode: visit.mode,
-            place,
-        })?;
-        if through.has(next) {
-            self.meet(next)
-        } else {
-            Ok(false)
-        }
+        Ok(())
     }
 }
 
-// Whether a circle inside `through` can be come to from a mode inside `through`. Depth first.
-pub(crate) fn circles<C: Chart>(
-    heap: Global,
-    chart: &C,
-    through: &Modes,
-    mode: u16,
-) -> Result<bool, AllocError> {
-    if !through.has(mode) {
-        return Ok(false);
-    }
-    let mut descent = Descent::new(heap, chart.modes())?;
-    descent.enter(mode)?;
-    for _ in 0..u64::MAX {
-        let Some(visit) = descent.visits.pop() else {
-            break;
-        };
-        if descent.step(chart, through, visit)? {
-            return Ok(true);
+// A search depth first inside a set of modes: the modes on the way down, and all that were come to.
+#[derive(Drop)]
+struct Descent<'a> {
+    through: &'a Modes,
+    path: Modes,
+    seen: Modes,
+}
+
+impl Descent<'_> {
+    // Whether going on from a mode closes a circle.
+    fn closes<C: Chart>(&mut self, chart: &C, mode: u16) -> bool
+        ensures { absent self.new.seen.held.items ≤ absent self.old.seen.held.items }
+    {
+        if self.path.has(mode) {
+            return true;
         }
+        if !self.through.has(mode) || !self.seen.insert(mode) {
+            return false;
+        }
+        self.path.insert(mode);
+        for place in 0..chart.degree(mode) {
+            if let Some(next) = chart.way(mode, place) {
+                if self.closes(chart, next) {
+                    return true;
+                }
+            }
+        }
+        self.path.remove(mode);
+        false
     }
-    Ok(false)
+}
+
+impl<C: Chart> Graph<'_, C> {
+    // Whether some way out of a mode leads to one that is wanted.
+    pub(crate) fn leads<F: Fn(u16) -> bool>(&self, mode: u16, is_wanted: F) -> bool
+        requires { F.IsAlwaysCallable is_wanted }
+    {
+        (0..self.chart.degree(mode)).any(|place| match self.chart.way(mode, place) {
+            Some(next) => is_wanted(next),
+            None => false,
+        })
+    }
+
+    // How many modes a path from a mode to the target has at the fewest, if there is one: all its modes but the last
+    // are in `through`. No mode is reached twice.
+    pub(crate) fn fewest(
+        &self,
+        through: &Modes,
+        target: &Modes,
+        mode: u16,
+    ) -> Result<Option<usize>, AllocError> {
+        let mut search = Search {
+            seen: Modes::uniform(self.heap, self.chart.modes(), false)?,
+            queue: VecDeque::new(self.heap),
+        };
+        search.reach(mode, 1)?;
+        for _ in 0..self.chart.modes() {
+            let Some(here) = search.queue.pop_front() else {
+                break;
+            };
+            if target.has(here.mode) {
+                return Ok(Some(here.modes));
+            }
+            if through.has(here.mode) {
+                search.follow(self.chart, here)?;
+            }
+        }
+        Ok(None)
+    }
+
+    // Whether a circle inside `through` can be come to from a mode inside `through`.
+    pub(crate) fn circles(&self, through: &Modes, mode: u16) -> Result<bool, AllocError> {
+        let mut descent = Descent {
+            through,
+            path: Modes::uniform(self.heap, self.chart.modes(), false)?,
+            seen: Modes::uniform(self.heap, self.chart.modes(), false)?,
+        };
+        Ok(descent.closes(self.chart, mode))
+    }
 }

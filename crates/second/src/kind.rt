@@ -1,4 +1,5 @@
 // The kinds of charts that are compared.
+use std::fmt;
 
 #[derive(Clone, Copy)]
 pub(crate) enum Kind {
@@ -12,9 +13,9 @@ pub(crate) enum Kind {
     PairPair,
 }
 
-impl Kind {
-    pub(crate) fn name(self) -> &'static str {
-        match self {
+impl fmt::Display for Kind {
+    fn fmt<W: fmt::Write>(&self, f: &mut fmt::Formatter<W>) -> fmt::Result {
+        f.write_str(match self {
             Kind::Filed => "filed",
             Kind::Large => "filed of 256 modes",
             Kind::Counter => "counter",
@@ -23,7 +24,7 @@ impl Kind {
             Kind::CounterCounter => "counter and counter",
             Kind::FiledFiled => "filed and filed",
             Kind::PairPair => "pair and pair",
-        }
+        })
     }
 }
 

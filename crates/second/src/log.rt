@@ -1,43 +1,49 @@
 // What was compared, and where the two checkers disagree.
+use crate::difference::Difference;
 use crate::kind::Kind;
 use std::alloc::{AllocError, Global};
+use std::fmt;
 use witness::Shown;
 
-// What a comparison is about: the chart's number and kind, the text and its line.
+// The number and kind of a chart, how many texts it is given, and how many parts they mostly have.
 #[derive(Clone, Copy)]
-pub(crate) struct Subject<'a> {
+pub(crate) struct Trial {
     pub(crate) chart: u32,
     pub(crate) kind: Kind,
+    pub(crate) texts: u8,
+    pub(crate) few: u16,
+}
+
+// What a comparison is about: the chart, the text and its line.
+#[derive(Clone, Copy)]
+pub(crate) struct Subject<'a> {
+    pub(crate) trial: Trial,
     pub(crate) text: &'a str,
     pub(crate) line: usize,
 }
 
-// What was asked of the sheet or the book.
-#[derive(Clone, Copy)]
-pub(crate) enum Asked {
-    Entry,
-    Answer,
-    Round,
-    Rounds,
-    Path,
-}
-
-// At a mode, what the second checker expected and what was told.
-#[derive(Clone, Copy)]
-pub(crate) struct Difference {
-    pub(crate) asked: Asked,
-    pub(crate) mode: u16,
-    pub(crate) expected: &'static str,
-    pub(crate) told: &'static str,
-}
-
+// The difference is kept as it is printed.
 #[derive(Drop)]
 pub(crate) struct Disagreement {
-    pub(crate) chart: u32,
-    pub(crate) kind: Kind,
-    pub(crate) text: String,
-    pub(crate) line: usize,
-    pub(crate) difference: Difference,
+    trial: Trial,
+    text: String,
+    line: usize,
+    mode: u16,
+    difference: String,
+}
+
+impl fmt::Display for Disagreement {
+    fn fmt<W: fmt::Write>(&self, f: &mut fmt::Formatter<W>) -> fmt::Result {
+        let Trial { chart, kind, .. } = self.trial;
+        let text = self.text.as_str();
+        let line = self.line;
+        let mode = self.mode;
+        let difference = self.difference.as_str();
+        write!(
+            f,
+            "chart {chart} ({kind}) text {text} line {line} mode {mode}: {difference}"
+        )
+    }
 }
 
 // The most disagreements that are kept to be printed; all are counted.
@@ -45,6 +51,7 @@ const KEPT: usize = 40;
 
 #[derive(Drop)]
 pub(crate) struct Log {
+    heap: Global,
     // texts entered, and texts for which a sheet had no room
     pub(crate) texts: u64,
     pub(crate) skipped: u64,
@@ -66,6 +73,7 @@ pub(crate) struct Log {
 impl Log {
     pub(crate) fn new(heap: Global) -> Log {
         Log {
+            heap,
             texts: 0,
             skipped: 0,
             answers: 0,
@@ -111,34 +119,23 @@ impl Log {
         self.refused = self.refused.saturating_add(1);
     }
 
+    // Notes a disagreement at a mode; 0 where it is at none.
     pub(crate) fn differ(
         &mut self,
-        heap: Global,
         subject: Subject<'_>,
-        difference: Difference,
+        mode: u16,
+        difference: Difference<'_>,
     ) -> Result<(), AllocError> {
         self.disagreements = self.disagreements.saturating_add(1);
         if self.first.len() < KEPT {
             self.first.push(Disagreement {
-                chart: subject.chart,
-                kind: subject.kind,
-                text: String::from_str(heap, subject.text)?,
+                trial: subject.trial,
+                text: String::from_str(self.heap, subject.text)?,
                 line: subject.line,
-                difference,
+                mode,
+                difference: format!(in self.heap; "{difference}")?,
             })?;
         }
         Ok(())
-    }
-}
-
-impl Asked {
-    pub(crate) fn name(self) -> &'static str {
-        match self {
-            Asked::Entry => "entry",
-            Asked::Answer => "answer",
-            Asked::Round => "answer after a round",
-            Asked::Rounds => "rounds",
-            Asked::Path => "path",
-        }
     }
 }

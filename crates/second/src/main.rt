@@ -7,6 +7,8 @@ mod answers;
 mod comparing;
 mod deciding;
 mod decision;
+mod difference;
+mod due;
 mod files;
 mod graph;
 mod kind;
@@ -19,86 +21,61 @@ mod stop;
 mod texts;
 mod trials;
 
-use log::{Disagreement, Log};
+use log::Log;
 use options::{Options, read_options};
-use random::Random;
 use std::alloc::Global;
 use std::io;
 use stop::Stop;
-use trials::run;
+use trials::Trials;
 
 // Charts one after another, all from one seed.
 fn run_all(heap: Global, options: Options) -> Result<Log, Stop> {
-    let mut random = Random::new(u64::from(options.seed));
-    let mut log = Log::new(heap);
+    let mut trials = Trials::new(heap, options.seed);
     for number in 0..options.charts {
-        run(heap, &mut random, number, &mut log)?;
+        trials.run(number)?;
     }
+    let Trials { log, .. } = trials;
     Ok(log)
 }
 
-fn print_disagreement(rt: &HostRuntime, found: &Disagreement) -> io::Result<()> {
-    let chart = found.chart;
-    let kind = found.kind.name();
-    let text = found.text.as_str();
-    let line = found.line;
-    let mode = found.difference.mode;
-    let asked = found.difference.asked.name();
-    let expected = found.difference.expected;
-    let told = found.difference.told;
+fn print_answers(rt: &HostRuntime, log: &Log) -> io::Result<()> {
     println!(rt;
-        "chart {chart} ({kind}) text {text} line {line} mode {mode}: {asked}: expected {expected}, told {told}"
+        "texts {} skipped {} answers {} yes {}",
+        log.texts,
+        log.skipped,
+        log.answers,
+        log.yes
     )
 }
 
-fn print_answers(rt: &HostRuntime, log: &Log) -> io::Result<()> {
-    let texts = log.texts;
-    let skipped = log.skipped;
-    let answers = log.answers;
-    let yes = log.yes;
-    println!(rt; "texts {texts} skipped {skipped} answers {answers} yes {yes}")
-}
-
 fn print_counts(rt: &HostRuntime, log: &Log) -> io::Result<()> {
-    let told = log.told;
-    let early = log.early;
-    let paths = log.paths;
-    let returns = log.returns;
-    let longest = log.longest;
-    let refused = log.refused;
-    println!(rt; "told after rounds {told} early {early}")?;
-    println!(rt; "paths {paths} returning {returns} longest {longest} refused {refused}")
+    println!(rt; "told after rounds {} early {}", log.told, log.early)?;
+    println!(rt;
+        "paths {} returning {} longest {} refused {}",
+        log.paths,
+        log.returns,
+        log.longest,
+        log.refused
+    )
 }
 
 fn print_log(rt: &HostRuntime, log: &Log, tell: bool) -> io::Result<()> {
     for found in &log.first {
-        print_disagreement(rt, found)?;
+        println!(rt; "{found}")?;
     }
     if tell {
         print_answers(rt, log)?;
         print_counts(rt, log)?;
     }
-    let disagreements = log.disagreements;
-    println!(rt; "disagreements {disagreements}")
-}
-
-fn print_stop(rt: &HostRuntime, stop: Stop) -> io::Result<()> {
-    match stop {
-        Stop::Memory => println!(rt; "stopped: no memory"),
-        Stop::Refused(refusal) => {
-            let number = refusal.number();
-            println!(rt; "stopped: refused {number}")
-        }
-    }
+    println!(rt; "disagreements {}", log.disagreements)
 }
 
 fn main(rt: HostRuntime) -> io::Result<()> {
     let options = read_options(&rt)?;
-    let seed = options.seed;
-    let charts = options.charts;
+    let Options { seed, charts, tell } = options;
     println!(rt; "seed {seed} charts {charts}")?;
     match run_all(rt.alloc(), options) {
-        Ok(log) => print_log(&rt, &log, options.tell),
-        Err(stop) => print_stop(&rt, stop),
+        Ok(log) => print_log(&rt, &log, tell),
+        Err(stop) => println!(rt; "stopped: {stop}"),
     }
 }

@@ -1,7 +1,9 @@
 // A set of modes: for each mode of a chart whether it is in the set.
-ghost use Rattle.std.specs.Prelude.{◌≡◌, true, false, set, IfOk, vec_len, slice_index_or, slice_set};
+ghost use Rattle.std.specs.Prelude.{◌≡◌, ◌+◌, ◌≤◌, true, false, set, IfOk, vec_len, slice_index_or, slice_set};
+ghost use Rattle.second.specs.Absent.{absent};
 
 use std::alloc::{AllocError, Global};
+use std::mem;
 
 #[derive(Drop)]
 pub(crate) struct Modes {
@@ -17,64 +19,59 @@ impl Modes {
         Ok(Modes { held })
     }
 
-    // No modes yet.
-    pub(crate) fn new(heap: Global) -> Modes
-        ensures { vec_len result.held ≡ 0 }
+    // Of so many modes those that a test says are in the set.
+    pub(crate) fn of<F: FnMut(u16) -> Result<bool, AllocError>>(
+        heap: Global,
+        count: u16,
+        is_held: F,
+    ) -> Result<Modes, AllocError>
+        requires { (state : F) (mode : _) → F.pre state mode }
     {
-        Modes {
-            held: Vec::new(heap),
-        }
-    }
-
-    // Says of the next mode whether it is in the set.
-    pub(crate) fn push(&mut self, held: bool) -> Result<(), AllocError> {
-        self.held.push(held)?;
-        Ok(())
+        let held = (0..count).map(is_held).try_collect(heap)?;
+        Ok(Modes { held })
     }
 
     pub(crate) fn has(&self, mode: u16) -> bool
         ensures { result ≡ slice_index_or self.now.held.items mode false }
     {
-        match self.held.get(mode as usize) {
-            Some(held) => *held,
+        self.held.get(mode as usize).copied().unwrap_or(false)
+    }
+
+    // Puts a mode into the set, where it is one of the modes; whether it was not in it.
+    pub(crate) fn insert(&mut self, mode: u16) -> bool
+        ensures held { self.new.held.items ≡ slice_set self.old.held.items mode true }
+        ensures fewer { result ≡ true → absent self.new.held.items + 1 ≡ absent self.old.held.items }
+    {
+        match self.held.get_mut(mode as usize) {
+            Some(held) => !mem::replace(held, true),
             None => false,
         }
     }
 
-    // Puts a mode into the set, where it is one of the modes.
-    pub(crate) fn insert(&mut self, mode: u16)
-        ensures { self.new.held.items ≡ slice_set self.old.held.items mode true }
-    {
-        let place = mode as usize;
-        if place < self.held.len() {
-            self.held[place] = true;
+    // Takes a mode out of the set.
+    pub(crate) fn remove(&mut self, mode: u16) {
+        if let Some(held) = self.held.get_mut(mode as usize) {
+            *held = false;
         }
     }
 
     // The modes that are not in the set.
     pub(crate) fn others(&self, heap: Global) -> Result<Modes, AllocError> {
-        let mut others = Modes::new(heap);
-        for held in &self.held {
-            others.push(!*held)?;
-        }
-        Ok(others)
+        let held = self.held.iter().map(|held| !*held).collect(heap)?;
+        Ok(Modes { held })
     }
 
     // The modes in both sets.
     pub(crate) fn and(&self, heap: Global, right: &Modes) -> Result<Modes, AllocError> {
-        let mut both = Modes::new(heap);
-        for (left, right) in self.held.iter().zip(right.held.iter()) {
-            both.push(*left && *right)?;
-        }
-        Ok(both)
+        let pairs = self.held.iter().zip(right.held.iter());
+        let held = pairs.map(|(left, right)| *left && *right).collect(heap)?;
+        Ok(Modes { held })
     }
 
     // The modes in one set or the other.
     pub(crate) fn or(&self, heap: Global, right: &Modes) -> Result<Modes, AllocError> {
-        let mut either = Modes::new(heap);
-        for (left, right) in self.held.iter().zip(right.held.iter()) {
-            either.push(*left || *right)?;
-        }
-        Ok(either)
+        let pairs = self.held.iter().zip(right.held.iter());
+        let held = pairs.map(|(left, right)| *left || *right).collect(heap)?;
+        Ok(Modes { held })
     }
 }

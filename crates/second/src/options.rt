@@ -8,13 +8,6 @@ pub(crate) struct Options {
     pub(crate) tell: bool,
 }
 
-fn number_or(text: &str, otherwise: u32) -> u32 {
-    match text.parse::<u32>() {
-        Ok(number) => number,
-        Err(_) => otherwise,
-    }
-}
-
 // What is absent, or no number, is 1 for a seed and 1000 for the charts.
 pub(crate) fn read_options(rt: &HostRuntime) -> io::Result<Options> {
     let mut options = Options {
@@ -24,8 +17,8 @@ pub(crate) fn read_options(rt: &HostRuntime) -> io::Result<Options> {
     };
     for (place, word) in env::args(rt)?.enumerate() {
         match place {
-            1 => options.seed = number_or(word.as_str(), 1),
-            2 => options.charts = number_or(word.as_str(), 1000),
+            1 => options.seed = word.as_str().parse().unwrap_or(1),
+            2 => options.charts = word.as_str().parse().unwrap_or(1000),
             3 => options.tell = word.as_str() == "tell",
             _ => {}
         }

@@ -1,305 +1,223 @@
 // Comparing shown paths: whether one is due, and whether it bears out the answer, step by step.
-use crate::deciding::Form;
+use crate::comparing::Comparison;
 use crate::decision::Decision;
-use crate::graph::fewest;
-use crate::log::{Asked, Difference, Log, Subject};
+use crate::difference::Difference;
+use crate::due::{Due, Fault};
+use crate::graph::Graph;
+use crate::log::{Log, Subject};
 use crate::modes::Modes;
+use crate::stop::Stop;
 use basis::Refusal;
 use chart::Chart;
-use ctl::{Quantifier, Temporal};
 use sheet::Book;
-use std::alloc::{AllocError, Global};
+use std::alloc::AllocError;
 use witness::Shown;
-
-// The path that is due.
-#[derive(Clone, Copy)]
-enum Due {
-    Nothing,
-    // one way, to a mode where the operand has the answer
-    Step,
-    // a path of fewest modes to where the right operand has the answer, through modes where the left one has it
-    Arrival,
-    // the right operand has the answer throughout, and the left one at the last mode, or the last returns
-    Stay,
-}
-
-fn due_of(form: Form, holds: bool) -> Due {
-    match (form, holds) {
-        (Form::Next(Quantifier::Exists), true) | (Form::Next(Quantifier::Forall), false) => {
-            Due::Step
-        }
-        (Form::Path(Temporal::Until, Quantifier::Exists), true)
-        | (Form::Path(Temporal::Release, Quantifier::Forall), false) => Due::Arrival,
-        (Form::Path(Temporal::Release, Quantifier::Exists), true)
-        | (Form::Path(Temporal::Until, Quantifier::Forall), false) => Due::Stay,
-        _ => Due::Nothing,
-    }
-}
-
-fn is_way<C: Chart>(chart: &C, from: u16, to: u16) -> bool {
-    for place in 0..chart.degree(from) {
-        if let Some(way) = chart.way(from, place) {
-            if way == to {
-                return true;
-            }
-        }
-    }
-    false
-}
-
-// Whether each mode is a way out of the one before.
-fn is_path<C: Chart>(chart: &C, path: &[u16]) -> bool {
-    for (from, to) in path.iter().zip(path.iter().skip(1)) {
-        if !is_way(chart, *from, *to) {
-            return false;
-        }
-    }
-    true
-}
-
-// Whether a set has, or has not, every one of the modes.
-fn all_are(modes: &[u16], set: &Modes, holds: bool) -> bool {
-    for mode in modes {
-        if set.has(*mode) != holds {
-            return false;
-        }
-    }
-    true
-}
-
-// A path that was shown, with the answer that it is to bear out and the sets of its operands.
-#[derive(Clone, Copy)]
-struct Case<'a> {
-    left: &'a Modes,
-    right: &'a Modes,
-    holds: bool,
-    mode: u16,
-}
-
-// What is wrong with the return place, if anything.
-fn return_fault<C: Chart>(
-    chart: &C,
-    path: &[u16],
-    last: u16,
-    returns: Option<usize>,
-) -> Option<&'static str> {
-    let place = returns?;
-    match path.get(place) {
-        Some(mode) if is_way(chart, last, *mode) => None,
-        Some(_) => Some("no way leads to the return place"),
-        None => Some("the return place lies past the path"),
-    }
-}
-
-// What is wrong with a step, if anything.
-fn step_fault(case: Case<'_>, path: &[u16], returns: Option<usize>) -> Option<&'static str> {
-    match path {
-        [_, next] if case.right.has(*next) == case.holds && returns.is_none() => None,
-        _ => Some("no step to where the operand has the answer"),
-    }
-}
-
-// How many modes a path that bears out the answer has at the fewest.
-fn least_modes<C: Chart>(
-    heap: Global,
-    chart: &C,
-    case: Case<'_>,
-) -> Result<Option<usize>, AllocError> {
-    if case.holds {
-        fewest(heap, chart, case.left, case.right, case.mode)
-    } else {
-        let left = case.left.others(heap)?;
-        let right = case.right.others(heap)?;
-        fewest(heap, chart, &left, &right, case.mode)
-    }
-}
-
-// What is wrong with a path to where the right operand has the answer, if anything.
-fn arrival_fault<C: Chart>(
-    heap: Global,
-    chart: &C,
-    case: Case<'_>,
-    path: &[u16],
-    returns: Option<usize>,
-) -> Result<Option<&'static str>, AllocError> {
-    let Some((last, before)) = path.split_last() else {
-        return Ok(Some("no modes"));
-    };
-    if returns.is_some() {
-        return Ok(Some("it returns"));
-    }
-    if case.right.has(*last) != case.holds || !all_are(before, case.left, case.holds) {
-        return Ok(Some("an operand lacks the answer"));
-    }
-    match least_modes(heap, chart, case)? {
-        Some(least) if least == path.len() => Ok(None),
-        _ => Ok(Some("not as few modes as there can be")),
-    }
-}
-
-// What is wrong with a path on which the right operand keeps the answer, if anything.
-fn stay_fault(case: Case<'_>, path: &[u16], returns: Option<usize>) -> Option<&'static str> {
-    let last = path.last()?;
-    if !all_are(path, case.right, case.holds) {
-        return Some("the right operand lacks the answer");
-    }
-    if returns.is_none() && case.left.has(*last) != case.holds {
-        return Some("it neither returns nor ends where the left operand has the answer");
-    }
-    None
-}
-
-// What is wrong with a shown path, if anything.
-fn fault_of<C: Chart>(
-    heap: Global,
-    chart: &C,
-    due: Due,
-    case: Case<'_>,
-    path: &[u16],
-    returns: Option<usize>,
-) -> Result<Option<&'static str>, AllocError> {
-    let (Some(first), Some(last)) = (path.first(), path.last()) else {
-        return Ok(Some("no modes"));
-    };
-    if *first != case.mode {
-        return Ok(Some("it begins elsewhere"));
-    }
-    if !is_path(chart, path) {
-        return Ok(Some("a step that is no way"));
-    }
-    if let Some(fault) = return_fault(chart, path, *last, returns) {
-        return Ok(Some(fault));
-    }
-    match due {
-        Due::Nothing => Ok(Some("a path where none is due")),
-        Due::Step => Ok(step_fault(case, path, returns)),
-        Due::Arrival => arrival_fault(heap, chart, case, path, returns),
-        Due::Stay => Ok(stay_fault(case, path, returns)),
-    }
-}
 
 // What a place of the buffer holds that no path was laid into; no chart has such a mode.
 const BLANK: u16 = 0xABCD;
 
 fn is_blank(places: &[u16]) -> bool {
-    for place in places {
-        if *place != BLANK {
-            return false;
-        }
-    }
-    true
+    places.iter().all(|place| *place == BLANK)
 }
 
-// What is wrong with showing the path in a buffer that is one too short, if anything.
-fn short_fault<C: Chart>(
-    heap: Global,
-    book: &mut Book<&C>,
+// Whether a set has, or has not, every one of the modes.
+fn all_are(modes: &[u16], set: &Modes, holds: bool) -> bool {
+    modes.iter().all(|mode| set.has(*mode) == holds)
+}
+
+// What is asked of a book: a line at a mode, the answer, and the path that is due to bear it out.
+#[derive(Clone, Copy)]
+struct Case<'a> {
     line: usize,
     mode: u16,
-    needed: usize,
-) -> Result<Option<&'static str>, AllocError> {
-    let mut buffer = vec![in heap; BLANK; needed.saturating_sub(1)]?;
-    let told = book.show(line, mode, &mut buffer);
-    let right = match told {
-        Err(Refusal::ShortPath(modes)) => modes == needed,
-        _ => false,
-    };
-    if !right {
-        return Ok(Some("a short buffer is not refused with the modes needed"));
-    }
-    if !is_blank(&buffer) {
-        return Ok(Some("a short buffer is written"));
-    }
-    Ok(None)
+    holds: bool,
+    due: Due<'a>,
 }
 
-// What is wrong with what was shown in a buffer, if anything.
-fn shown_fault<C: Chart>(
-    heap: Global,
-    chart: &C,
-    due: Due,
-    case: Case<'_>,
-    shown: Shown,
-    buffer: &[u16],
-) -> Result<Option<&'static str>, AllocError> {
-    if shown.modes > buffer.len() {
-        return Ok(Some("more modes than the buffer has"));
+impl<C: Chart> Graph<'_, C> {
+    fn has_way(&self, from: u16, to: u16) -> bool {
+        self.leads(from, |next| next == to)
     }
-    let (path, rest) = buffer.split_at(shown.modes);
-    if !is_blank(rest) {
-        return Ok(Some("the buffer is written past the path"));
+
+    // Whether each mode is a way out of the one before.
+    fn has_path(&self, path: &[u16]) -> bool {
+        path.iter()
+            .zip(path.iter().skip(1))
+            .all(|(from, to)| self.has_way(*from, *to))
     }
-    fault_of(heap, chart, due, case, path, shown.returns)
+
+    // Whether a way leads from the last mode to the return place.
+    fn check_return(&self, path: &[u16], last: u16, place: usize) -> Result<(), Fault> {
+        match path.get(place) {
+            Some(mode) if self.has_way(last, *mode) => Ok(()),
+            Some(_) => Err(Fault::NoReturnWay),
+            None => Err(Fault::NoReturnPlace),
+        }
+    }
+
+    // How many modes a path through one set to another has at the fewest; through those that are not in them where the
+    // answer is no.
+    fn least_modes(
+        &self,
+        left: &Modes,
+        right: &Modes,
+        case: Case<'_>,
+    ) -> Result<Option<usize>, AllocError> {
+        if case.holds {
+            self.fewest(left, right, case.mode)
+        } else {
+            let left = left.others(self.heap)?;
+            let right = right.others(self.heap)?;
+            self.fewest(&left, &right, case.mode)
+        }
+    }
+
+    // A path of fewest modes to where the right operand has the answer.
+    fn check_arrival(
+        &self,
+        left: &Modes,
+        right: &Modes,
+        case: Case<'_>,
+        path: &[u16],
+    ) -> Result<(), Fault> {
+        let Some((last, before)) = path.split_last() else {
+            return Err(Fault::Empty);
+        };
+        if right.has(*last) != case.holds || !all_are(before, left, case.holds) {
+            return Err(Fault::OperandAnswer);
+        }
+        match self.least_modes(left, right, case)? {
+            Some(least) if least == path.len() => Ok(()),
+            _ => Err(Fault::Length),
+        }
+    }
+
+    // What is due, of a path that the chart has.
+    fn check_due(
+        &self,
+        case: Case<'_>,
+        path: &[u16],
+        last: u16,
+        returns: Option<usize>,
+    ) -> Result<(), Fault> {
+        match case.due {
+            Due::Nothing => Err(Fault::NotDue),
+            Due::Step(operand) => match path {
+                [_, next] if operand.has(*next) == case.holds && returns.is_none() => Ok(()),
+                _ => Err(Fault::StepAnswer),
+            },
+            Due::Arrival(_, _) if returns.is_some() => Err(Fault::Returns),
+            Due::Arrival(left, right) => self.check_arrival(left, right, case, path),
+            Due::Stay(_, right) if !all_are(path, right, case.holds) => Err(Fault::RightAnswer),
+            Due::Stay(left, _) if returns.is_none() && left.has(last) != case.holds => {
+                Err(Fault::End)
+            }
+            Due::Stay(_, _) => Ok(()),
+        }
+    }
+
+    // A shown path: that the chart has it, and that it is what is due.
+    fn check_path(
+        &self,
+        case: Case<'_>,
+        path: &[u16],
+        returns: Option<usize>,
+    ) -> Result<(), Fault> {
+        let (Some(first), Some(last)) = (path.first(), path.last()) else {
+            return Err(Fault::Empty);
+        };
+        if *first != case.mode {
+            return Err(Fault::Beginning);
+        }
+        if !self.has_path(path) {
+            return Err(Fault::Step);
+        }
+        if let Some(place) = returns {
+            self.check_return(path, *last, place)?;
+        }
+        self.check_due(case, path, *last, returns)
+    }
+
+    // What was shown in a buffer.
+    fn check_shown(&self, case: Case<'_>, shown: Shown, buffer: &[u16]) -> Result<(), Fault> {
+        let Some((path, rest)) = buffer.split_at_checked(shown.modes) else {
+            return Err(Fault::PastBuffer);
+        };
+        if !is_blank(rest) {
+            return Err(Fault::PastPath);
+        }
+        self.check_path(case, path, shown.returns)
+    }
+
+    // Shows the path in a buffer that is one too short.
+    fn check_short(
+        &self,
+        book: &mut Book<&C>,
+        case: Case<'_>,
+        needed: usize,
+    ) -> Result<(), Fault> {
+        let mut buffer = vec![in self.heap; BLANK; needed.saturating_sub(1)]?;
+        if book.show(case.line, case.mode, &mut buffer) != Err(Refusal::ShortPath(needed)) {
+            return Err(Fault::ShortTaken);
+        }
+        if !is_blank(&buffer) {
+            return Err(Fault::ShortWritten);
+        }
+        Ok(())
+    }
+
+    // Shows the path at a mode, where one is due.
+    fn check_show(
+        &self,
+        book: &mut Book<&C>,
+        case: Case<'_>,
+        log: &mut Log,
+    ) -> Result<(), Fault> {
+        let room = (self.chart.modes() as usize).saturating_add(3);
+        let mut buffer = vec![in self.heap; BLANK; room]?;
+        match (book.show(case.line, case.mode, &mut buffer), case.due) {
+            (Ok(shown), _) => {
+                log.note_path(shown);
+                self.check_shown(case, shown, &buffer)?;
+                self.check_short(book, case, shown.modes)
+            }
+            (Err(Refusal::NoSuchPath), Due::Nothing) => {
+                log.note_refusal();
+                if is_blank(&buffer) {
+                    Ok(())
+                } else {
+                    Err(Fault::RefusedWritten)
+                }
+            }
+            (Err(_), _) => Err(Fault::Refused),
+        }
+    }
 }
 
-// What is wrong with showing at a mode, if anything.
-fn show_fault<C: Chart>(
-    heap: Global,
-    chart: &C,
-    book: &mut Book<&C>,
-    line: usize,
-    due: Due,
-    case: Case<'_>,
-    log: &mut Log,
-) -> Result<Option<&'static str>, AllocError> {
-    let room = (chart.modes() as usize).saturating_add(3);
-    let mut buffer = vec![in heap; BLANK; room]?;
-    match (book.show(line, case.mode, &mut buffer), due) {
-        (Ok(shown), _) => {
-            log.note_path(shown);
-            match shown_fault(heap, chart, due, case, shown, &buffer)? {
-                None => short_fault(heap, book, line, case.mode, shown.modes),
-                fault => Ok(fault),
+impl<C: Chart> Comparison<'_, C> {
+    // The paths of a text's line in a book, at every mode.
+    pub(crate) fn compare_paths(
+        &mut self,
+        book: &mut Book<&C>,
+        subject: Subject<'_>,
+        decision: &Decision,
+    ) -> Result<(), Stop> {
+        for mode in 0..self.graph.chart.modes() {
+            let due = decision.due(mode);
+            let case = Case {
+                line: subject.line,
+                mode,
+                holds: decision.holds_under(mode),
+                due,
+            };
+            match self.graph.check_show(book, case, self.log) {
+                Ok(()) => {}
+                Err(Fault::Memory) => return Err(Stop::Memory),
+                Err(fault) => self
+                    .log
+                    .differ(subject, mode, Difference::Path { due, fault })?,
             }
         }
-        (Err(Refusal::NoSuchPath), Due::Nothing) => {
-            log.note_refusal();
-            Ok(if is_blank(&buffer) {
-                None
-            } else {
-                Some("refused, and written")
-            })
-        }
-        (Err(_), _) => Ok(Some("refused")),
+        Ok(())
     }
-}
-
-fn expectation(due: Due) -> &'static str {
-    match due {
-        Due::Nothing => "no path",
-        Due::Step => "a step",
-        Due::Arrival => "a path of fewest modes",
-        Due::Stay => "a path that stays",
-    }
-}
-
-// The paths of a text's line in a book, at every mode.
-pub(crate) fn compare_paths<C: Chart>(
-    heap: Global,
-    chart: &C,
-    book: &mut Book<&C>,
-    subject: Subject<'_>,
-    decision: &Decision,
-    log: &mut Log,
-) -> Result<(), AllocError> {
-    for mode in 0..chart.modes() {
-        let holds = decision.under.has(mode);
-        let due = due_of(decision.form, holds);
-        let case = Case {
-            left: &decision.operands.left,
-            right: &decision.operands.right,
-            holds,
-            mode,
-        };
-        if let Some(fault) = show_fault(heap, chart, book, subject.line, due, case, log)? {
-            let difference = Difference {
-                asked: Asked::Path,
-                mode,
-                expected: expectation(due),
-                told: fault,
-            };
-            log.differ(heap, subject, difference)?;
-        }
-    }
-    Ok(())
 }

@@ -2,30 +2,6 @@
 use crate::random::Random;
 use std::alloc::{AllocError, Global};
 
-// What is still to be written.
-#[derive(Clone, Copy)]
-enum Pending {
-    // a property of so many parts
-    Property(u16),
-    // one whose outermost operator is about runs or ways
-    Temporal(u16),
-    Letter(char),
-}
-
-// A bracket with two operands: its middle and its closing.
-#[derive(Clone, Copy)]
-struct Bracket {
-    middle: char,
-    closing: char,
-}
-
-// A text, and what is to follow it, the last one first.
-#[derive(Drop)]
-struct Draft {
-    text: String,
-    pending: Vec<Pending>,
-}
-
 // The name of a mark, a letter.
 fn name(mark: u16) -> char {
     char::from(b'a'.saturating_add((mark % 26) as u8))
@@ -41,15 +17,6 @@ pub(crate) fn names(heap: Global, marks: usize) -> Result<String, AllocError> {
         names.push(name((mark & 0xFF) as u16))?;
     }
     Ok(names)
-}
-
-// A name or a constant.
-fn leaf(random: &mut Random, marks: u16) -> char {
-    if marks == 0 || random.once_in(10) {
-        if random.once_in(2) { '1' } else { '0' }
-    } else {
-        name(random.below(marks))
-    }
 }
 
 fn temporal_prefix(random: &mut Random) -> &'static str {
@@ -71,93 +38,74 @@ fn prefix(random: &mut Random) -> &'static str {
     }
 }
 
+// A text over so many marks that is being written.
+#[derive(Drop)]
+struct Draft {
+    text: String,
+    marks: u16,
+}
+
 impl Draft {
-    fn new(heap: Global) -> Draft {
-        Draft {
-            text: String::new(heap),
-            pending: Vec::new(heap),
-        }
+    // A name or a constant.
+    fn leaf(&mut self, random: &mut Random) -> Result<(), AllocError> {
+        self.text
+            .push(if self.marks == 0 || random.once_in(10) {
+                if random.once_in(2) { '1' } else { '0' }
+            } else {
+                name(random.below(self.marks))
+            })
     }
 
-    // An operator before one operand of so many parts.
-    fn unary(&mut self, operator: &str, parts: u16) -> Result<(), AllocError> {
-        self.text.push_str(operator)?;
-        self.pending.push(Pending::Property(parts))?;
-        Ok(())
-    }
-
-    // A bracket around two operands of so many parts.
-    fn binary(&mut self, bracket: Bracket, left: u16, right: u16) -> Result<(), AllocError> {
-        self.pending.push(Pending::Letter(bracket.closing))?;
-        self.pending.push(Pending::Property(right))?;
-        self.pending.push(Pending::Letter(bracket.middle))?;
-        self.pending.push(Pending::Property(left))?;
-        Ok(())
-    }
-
-    fn round(&mut self, random: &mut Random) -> Result<Bracket, AllocError> {
-        self.text.push('(')?;
-        let middle = if random.once_in(2) { '&' } else { '|' };
-        Ok(Bracket {
-            middle,
-            closing: ')',
-        })
-    }
-
-    fn square(&mut self, random: &mut Random) -> Result<Bracket, AllocError> {
+    // The opening of a square bracket, and its middle.
+    fn square(&mut self, random: &mut Random) -> Result<char, AllocError> {
         self.text
             .push_str(if random.once_in(2) { "E[" } else { "A[" })?;
-        let middle = if random.once_in(2) { 'U' } else { 'R' };
-        Ok(Bracket {
-            middle,
-            closing: ']',
-        })
+        Ok(if random.once_in(2) { 'U' } else { 'R' })
     }
 
-    // Parts for two operands and the operator between them.
-    fn bracketed(
+    // Two operands of so many parts together, with what stands between and after them.
+    fn operands(
         &mut self,
         random: &mut Random,
-        bracket: Bracket,
         parts: u16,
+        middle: char,
+        closing: char,
     ) -> Result<(), AllocError> {
         let left = random.within(1, parts.saturating_sub(1));
-        self.binary(bracket, left, parts.saturating_sub(left).saturating_sub(1))
+        self.property(random, left)?;
+        self.text.push(middle)?;
+        self.property(random, parts.saturating_sub(left).saturating_sub(1))?;
+        self.text.push(closing)
     }
 
+    // A property whose outermost operator is about runs or ways.
     fn temporal(&mut self, random: &mut Random, parts: u16) -> Result<(), AllocError> {
         if parts < 3 || random.once_in(2) {
-            self.unary(temporal_prefix(random), parts.saturating_sub(1))
+            self.text.push_str(temporal_prefix(random))?;
+            self.property(random, parts.saturating_sub(1))
         } else {
-            let bracket = self.square(random)?;
-            self.bracketed(random, bracket, parts)
+            let middle = self.square(random)?;
+            self.operands(random, parts, middle, ']')
         }
     }
 
-    fn property(&mut self, random: &mut Random, marks: u16, parts: u16) -> Result<(), AllocError> {
+    // A property of so many parts.
+    fn property(&mut self, random: &mut Random, parts: u16) -> Result<(), AllocError> {
         if parts < 2 {
-            return self.text.push(leaf(random, marks));
+            return self.leaf(random);
         }
         if parts < 3 || random.once_in(3) {
-            return self.unary(prefix(random), parts - 1);
+            self.text.push_str(prefix(random))?;
+            return self.property(random, parts - 1);
         }
-        let bracket = if random.once_in(2) {
-            self.round(random)?
+        if random.once_in(2) {
+            self.text.push('(')?;
+            let middle = if random.once_in(2) { '&' } else { '|' };
+            self.operands(random, parts, middle, ')')
         } else {
-            self.square(random)?
-        };
-        self.bracketed(random, bracket, parts)
-    }
-
-    // Writes the next thing that is pending; whether there was one.
-    fn step(&mut self, random: &mut Random, marks: u16) -> Result<bool, AllocError> {
-        match self.pending.pop() {
-            None => return Ok(false),
-            Some(Pending::Letter(letter)) => self.text.push(letter)?,
-            Some(Pending::Temporal(parts)) => self.temporal(random, parts)?,
-            Some(Pending::Property(parts)) => self.property(random, marks, parts)?,
+            let middle = self.square(random)?;
+            self.operands(random, parts, middle, ']')
         }
-        Ok(true)
     }
 }
 
@@ -178,23 +126,19 @@ pub(crate) fn draw_text(
     marks: usize,
     few: u16,
 ) -> Result<String, AllocError> {
-    let marks = (marks & 0xFF) as u16;
     let parts = draw_parts(random, few);
-    let mut draft = Draft::new(heap);
+    let mut draft = Draft {
+        text: String::new(heap),
+        marks: (marks & 0xFF) as u16,
+    };
     if random.once_in(4) {
-        draft.pending.push(Pending::Property(parts))?;
+        draft.property(random, parts)?;
     } else {
         for _ in 0..random.below(3) {
             draft.text.push('!')?;
         }
-        draft.pending.push(Pending::Temporal(parts))?;
+        draft.temporal(random, parts)?;
     }
-    for _ in 0..u64::MAX {
-        if !draft.step(random, marks)? {
-            break;
-        }
-    }
-    let Draft { text, pending } = draft;
-    drop(pending);
+    let Draft { text, .. } = draft;
     Ok(text)
 }

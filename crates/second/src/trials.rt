@@ -1,113 +1,14 @@
 // A random chart of each kind, and the comparison on it.
-use crate::comparing::{Trial, compare};
-use crate::files::{Most, Plan, draw_plan, filed, plan_of};
+use crate::comparing::Comparison;
+use crate::files::{Most, Plan, filed};
+use crate::graph::Graph;
 use crate::kind::{Kind, kind_of};
-use crate::log::Log;
+use crate::log::{Log, Trial};
 use crate::random::Random;
 use crate::stop::Stop;
+use crate::texts::names;
 use chart::{Chart, CounterChart, FiledChart, Pair, fits};
 use std::alloc::Global;
-
-// Mostly few marks, at times as many as there can be.
-fn most_marks(random: &mut Random) -> u8 {
-    if random.once_in(8) { 16 } else { 5 }
-}
-
-fn draw_small(random: &mut Random) -> Plan {
-    let most = Most {
-        modes: 40,
-        marks: most_marks(random),
-        width: 8,
-    };
-    draw_plan(random, most)
-}
-
-fn draw_large(random: &mut Random) -> Plan {
-    let most = Most {
-        modes: 256,
-        marks: 5,
-        width: 8,
-    };
-    plan_of(random, 256, most)
-}
-
-// A chart that stands alone.
-fn draw_filed(heap: Global, random: &mut Random, kind: Kind) -> Result<FiledChart, Stop> {
-    let plan = match kind {
-        Kind::Large => draw_large(random),
-        _ => draw_small(random),
-    };
-    filed(heap, random, plan)
-}
-
-// A side of a pair.
-fn draw_side(heap: Global, random: &mut Random, modes: u16) -> Result<FiledChart, Stop> {
-    let most = Most {
-        modes,
-        marks: 3,
-        width: 5,
-    };
-    let plan = draw_plan(random, most);
-    filed(heap, random, plan)
-}
-
-fn draw_counter(random: &mut Random, length: u16) -> Result<CounterChart, Stop> {
-    Ok(CounterChart::new(random.within(1, length.saturating_add(1)))?)
-}
-
-// Puts two charts side by side, which has to fit.
-fn join<L: Chart + Drop, R: Chart + Drop>(left: L, right: R) -> Result<Pair<L, R>, Stop> {
-    fits(&left, &right)?;
-    Ok(Pair::new(left, right))
-}
-
-fn compare_pairs(
-    heap: Global,
-    random: &mut Random,
-    trial: Trial,
-    log: &mut Log,
-) -> Result<(), Stop> {
-    let left = join(draw_side(heap, random, 4)?, draw_counter(random, 4)?)?;
-    let right = join(draw_counter(random, 4)?, draw_side(heap, random, 4)?)?;
-    let chart = join(left, right)?;
-    compare(heap, random, trial, &chart, log)
-}
-
-fn compare_filed(
-    heap: Global,
-    random: &mut Random,
-    trial: Trial,
-    log: &mut Log,
-) -> Result<(), Stop> {
-    let left = draw_side(heap, random, 12)?;
-    let right = draw_side(heap, random, 8)?;
-    let chart = join(left, right)?;
-    compare(heap, random, trial, &chart, log)
-}
-
-fn compare_mixed(
-    heap: Global,
-    random: &mut Random,
-    trial: Trial,
-    log: &mut Log,
-) -> Result<(), Stop> {
-    let left = draw_side(heap, random, 12)?;
-    let right = draw_counter(random, 8)?;
-    let chart = join(left, right)?;
-    compare(heap, random, trial, &chart, log)
-}
-
-fn compare_counters(
-    heap: Global,
-    random: &mut Random,
-    trial: Trial,
-    log: &mut Log,
-) -> Result<(), Stop> {
-    let left = draw_counter(random, 10)?;
-    let right = draw_counter(random, 10)?;
-    let chart = join(left, right)?;
-    compare(heap, random, trial, &chart, log)
-}
 
 // Texts for a chart: few and small ones where it is large.
 fn trial_of(chart: u32) -> Trial {
@@ -125,30 +26,119 @@ fn trial_of(chart: u32) -> Trial {
     }
 }
 
-// Draws the chart with this number and compares on it.
-pub(crate) fn run(
+// Puts two charts side by side, which has to fit.
+fn join<L: Chart + Drop, R: Chart + Drop>(left: L, right: R) -> Result<Pair<L, R>, Stop> {
+    fits(&left, &right)?;
+    Ok(Pair::new(left, right))
+}
+
+// The trials on charts that are drawn one after another.
+#[derive(Drop)]
+pub(crate) struct Trials {
     heap: Global,
-    random: &mut Random,
-    number: u32,
-    log: &mut Log,
-) -> Result<(), Stop> {
-    let trial = trial_of(number);
-    match trial.kind {
-        Kind::Filed | Kind::Large => {
-            let chart = draw_filed(heap, random, trial.kind)?;
-            compare(heap, random, trial, &chart, log)
+    random: Random,
+    pub(crate) log: Log,
+}
+
+impl Trials {
+    pub(crate) fn new(heap: Global, seed: u32) -> Trials {
+        Trials {
+            heap,
+            random: Random::new(u64::from(seed)),
+            log: Log::new(heap),
         }
-        Kind::Counter => {
-            let chart = draw_counter(random, 60)?;
-            compare(heap, random, trial, &chart, log)
+    }
+
+    // A chart that stands alone: mostly with few marks, at times with as many as there can be.
+    fn draw_small(&mut self) -> Result<FiledChart, Stop> {
+        let most = Most {
+            modes: 40,
+            marks: if self.random.once_in(8) { 16 } else { 5 },
+            width: 8,
+        };
+        let plan = Plan::draw(&mut self.random, most);
+        filed(self.heap, &mut self.random, plan)
+    }
+
+    // One with as many modes as there can be.
+    fn draw_large(&mut self) -> Result<FiledChart, Stop> {
+        let most = Most {
+            modes: 256,
+            marks: 5,
+            width: 8,
+        };
+        let plan = Plan::of(&mut self.random, 256, most);
+        filed(self.heap, &mut self.random, plan)
+    }
+
+    // A side of a pair.
+    fn draw_side(&mut self, modes: u16) -> Result<FiledChart, Stop> {
+        let most = Most {
+            modes,
+            marks: 3,
+            width: 5,
+        };
+        let plan = Plan::draw(&mut self.random, most);
+        filed(self.heap, &mut self.random, plan)
+    }
+
+    fn draw_counter(&mut self, length: u16) -> Result<CounterChart, Stop> {
+        let length = self.random.within(1, length.saturating_add(1));
+        Ok(CounterChart::new(length)?)
+    }
+
+    fn compare<C: Chart>(&mut self, trial: Trial, chart: &C) -> Result<(), Stop> {
+        let names = names(self.heap, chart.marks())?;
+        let mut comparison = Comparison {
+            graph: Graph {
+                heap: self.heap,
+                chart,
+            },
+            trial,
+            names: names.as_str(),
+            log: &mut self.log,
+        };
+        comparison.compare(&mut self.random)
+    }
+
+    // Draws the chart with this number and compares on it.
+    pub(crate) fn run(&mut self, number: u32) -> Result<(), Stop> {
+        let trial = trial_of(number);
+        match trial.kind {
+            Kind::Filed => {
+                let chart = self.draw_small()?;
+                self.compare(trial, &chart)
+            }
+            Kind::Large => {
+                let chart = self.draw_large()?;
+                self.compare(trial, &chart)
+            }
+            Kind::Counter => {
+                let chart = self.draw_counter(60)?;
+                self.compare(trial, &chart)
+            }
+            Kind::LongCounter => {
+                let chart = self.draw_counter(256)?;
+                self.compare(trial, &chart)
+            }
+            Kind::FiledFiled => {
+                let chart = join(self.draw_side(12)?, self.draw_side(8)?)?;
+                self.compare(trial, &chart)
+            }
+            Kind::FiledCounter => {
+                let chart = join(self.draw_side(12)?, self.draw_counter(8)?)?;
+                self.compare(trial, &chart)
+            }
+            Kind::CounterCounter => {
+                let chart = join(self.draw_counter(10)?, self.draw_counter(10)?)?;
+                self.compare(trial, &chart)
+            }
+            Kind::PairPair => {
+                let left = join(self.draw_side(4)?, self.draw_counter(4)?)?;
+                let right = join(self.draw_counter(4)?, self.draw_side(4)?)?;
+                let chart = join(left, right)?;
+                self.compare(trial, &chart)
+            }
         }
-        Kind::LongCounter => {
-            let chart = draw_counter(random, 256)?;
-            compare(heap, random, trial, &chart, log)
-        }
-        Kind::FiledFiled => compare_filed(heap, random, trial, log),
-        Kind::FiledCounter => compare_mixed(heap, random, trial, log),
-        Kind::CounterCounter => compare_counters(heap, random, trial, log),
-        Kind::PairPair => compare_pairs(heap, random, trial, log),
     }
 }
