@@ -4,20 +4,20 @@ ghost use Rattle.std.specs.Prelude.{◌≤◌, length, IfOk};
 use std::io::{ErrorKind, Read};
 use std::{fs, io};
 
-// How many bytes of `chart.mch` were read, at most as many as the buffer holds. A missing file is empty.
-pub fn read_chart_file(rt: &HostRuntime, file: &mut [u8]) -> io::Result<usize>
-    ensures { IfOk result (λ n. n ≤ length file.old) }
+// What was read of `chart.mch`, at most as much as the buffer holds. A missing file is empty.
+pub fn read_chart_file<'a>(rt: &HostRuntime, buffer: &'a mut [u8]) -> io::Result<&'a [u8]>
+    ensures { IfOk result (λ file. length file.now ≤ length buffer.old) }
 {
     match fs::open(rt, "chart.mch") {
-        Ok(mut opened) => fill(&mut opened, file),
-        Err(error) if error.kind() == ErrorKind::NotFound => Ok(0),
+        Ok(mut opened) => fill(&mut opened, buffer),
+        Err(error) if error.kind() == ErrorKind::NotFound => Ok(&[]),
         Err(error) => Err(error),
     }
 }
 
-// How many bytes were read until the buffer was full or the input ended.
-pub fn fill<R: Read>(input: &mut R, buffer: &mut [u8]) -> io::Result<usize>
-    ensures { IfOk result (λ n. n ≤ length buffer.old) }
+// What was read until the buffer was full or the input ended.
+pub fn fill<'a, R: Read>(input: &mut R, buffer: &'a mut [u8]) -> io::Result<&'a [u8]>
+    ensures { IfOk result (λ read. length read.now ≤ length buffer.old) }
 {
     let mut done = 0;
     while done < buffer.len() {
@@ -27,5 +27,5 @@ pub fn fill<R: Read>(input: &mut R, buffer: &mut [u8]) -> io::Result<usize>
         }
         done += got;
     }
-    Ok(done)
+    Ok(&buffer[..done])
 }

@@ -1,21 +1,26 @@
 // The lines of what was read.
-ghost use Rattle.std.specs.Prelude.{◌≡◌, ℕ, ◌<◌, ◌≤◌, map, length, IfOk, ◌≢◌, slice_index};
+ghost use Rattle.std.specs.Prelude.{◌≡◌, ◌<◌, ◌==◌, ◌∷◌, map, length, IfOk};
+ghost use Rattle.std.specs.List.{position};
 ghost use Rattle.intake.specs.Lines.{lines_of};
 
 use std::alloc::{AllocError, Global};
 
-// The place of the first line end, or the length where there is none.
-fn line_end(text: &[u8]) -> usize
-    ensures within { result ≤ length text.now }
-    ensures before { (k : ℕ) → k < result → slice_index text.now k ≢ 10 }
-    ensures found { result < length text.now → slice_index text.now result ≡ 10 }
+// The place of the first line end.
+fn line_end(text: &[u8]) -> Option<usize>
+    ensures { result ≡ position (λ byte. byte == 10) text.now }
 {
-    for (i, byte) in text.iter().enumerate() {
-        if *byte == b'\n' {
-            return i;
-        }
+    text.iter().position(|byte| *byte == b'\n')
+}
+
+// The first line of a text, without its line end, and the text after it.
+fn split_line(text: &[u8]) -> (&[u8], &[u8])
+    ensures first { 0 < length text.now → result.0.now ∷ lines_of result.1.now ≡ lines_of text.now }
+    ensures shorter { 0 < length text.now → length result.1.now < length text.now }
+{
+    match line_end(text) {
+        Some(end) => (&text[..end], &text[end + 1..]),
+        None => (text, &[]),
     }
-    text.len()
 }
 
 // Every line as a part of the text, without its line end. The text's end ends a line too, but after a last line end
@@ -24,11 +29,11 @@ pub fn lines_of<'a>(heap: Global, text: &'a [u8]) -> Result<Vec<&'a [u8]>, Alloc
     ensures { IfOk result (λ v. map (λ x. x.now) v.items ≡ lines_of text.now) }
 {
     let mut lines = Vec::new(heap);
-    let mut start = 0;
-    while start < text.len() {
-        let end = start + line_end(&text[start..]);
-        lines.push(&text[start..end])?;
-        start = end + 1;
+    let mut rest = text;
+    while !rest.is_empty() {
+        let (line, after) = split_line(rest);
+        lines.push(line)?;
+        rest = after;
     }
     Ok(lines)
 }
