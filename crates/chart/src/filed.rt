@@ -18,5 +18,6 @@ pub struct FiledChart {
     ghost bounds: { Bounds (meaning_of marks width start records.items) },
     ghost rows: { Rows (meaning_of marks width start records.items) },
     ghost inside: { Inside (meaning_of marks width start records.items) },
+    ghost narrow: { width ≤ 8 },
     ghost room: { 256 ≤ vec_capacity records },
 }

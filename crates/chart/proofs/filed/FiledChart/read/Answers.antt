@@ -1,4 +1,4 @@
-use Rattle.std.proofs.Common.{vec_items, sym, subst}
+use Rattle.std.proofs.Common.{vec_items, sym, ap, subst, arith}
 use Rattle.chart.specs.Files.{header_of}
 use Rattle.chart.specs.Records.{Bounds, Rows, Inside}
 use Rattle.chart.proofs.Sound.{faultless, limits_of, file-bounds, file-rows, file-inside, read-chart}
@@ -15,5 +15,6 @@ invariant_of-self c =
       bounds = subst Bounds (sym same) (file-bounds f e);
       rows = subst Rows (sym same) (file-rows f e);
       inside = subst Inside (sym same) (file-inside f e);
+      narrow = omega (arith, ap (λ k. k.width) c.requires.1);
       room = c.read_records.ensures.room;
     }
