@@ -1,7 +1,7 @@
 -- The place of a mode in a path, and a table of places kept along a walk.
-use Rattle.std.proofs.Common.{◌≡◌, ℕ, suc, ◌+◌, ◌-◌, ◌<◌, ◌≤◌, Bool, true, false, cond, not, eqb, ltb, List, [], ◌∷◌, ◌++◌, length, get_or, set, replicate, Some, None, sym, refl, ap, ◌∙◌, ⊎_elim, arith}
+use Rattle.std.proofs.Common.{◌≡◌, ℕ, suc, ◌+◌, ◌-◌, ◌<◌, ◌≤◌, Bool, true, false, cond, not, eqb, ltb, List, [], ◌∷◌, ◌++◌, length, get_or, set, replicate, Some, None, Option, sym, refl, ap, ◌∙◌, ⊎_elim, arith}
 use Rattle.std.specs.List.{prefix_len}
-use Rattle.std.proofs.lemmas.List.{get_or-set_same, get_or-set_other, get_or-replicate, length_push, length-set}
+use Rattle.std.proofs.lemmas.List.{get_or-set_same, get_or-set_other, get_or-replicate, get_or_past, length_push, length-set}
 use Rattle.std.proofs.lemmas.List.Sums.{prefix_len-le-length}
 use Rattle.std.proofs.lemmas.Bool.{cond-true, cond-false, cases_lt, cases_eq, lt-ltb, le-ltb, eq-eqb, ne_eqb, not_from_true, not_from_false}
 use Rattle.ctl.specs.Paths.{position_of}
@@ -36,20 +36,20 @@ module _ (p : ℕ → Bool) (m : ℕ) where
   lead-new [] e = new-here (p m)
   lead-new (y ∷ ys) e = new-at ys (p y) (lead-new ys) e
 
--- the place of a mode counted from 1, 0 where it does not stand
-abbrev pub place_in : List ℕ → ℕ → ℕ
-place_in xs x = cond (ltb (position_of x xs) (length xs)) (position_of x xs + 1) 0
+-- the place of a mode, if it stands there
+abbrev pub place_in : List ℕ → ℕ → Option ℕ
+place_in xs x = cond (ltb (position_of x xs) (length xs)) (Some (position_of x xs)) None
 
 within : (xs : List ℕ) (x : ℕ) → position_of x xs ≤ length xs
 within xs x = prefix_len-le-length (λ y. not (eqb y x)) xs
 
-place-there : (xs : List ℕ) (x k : ℕ) → position_of x xs ≡ k → k < length xs → place_in xs x ≡ k + 1
+place-there : (xs : List ℕ) (x k : ℕ) → position_of x xs ≡ k → k < length xs → place_in xs x ≡ Some k
 place-there xs x k e h =
     let l : position_of x xs < length xs = omega arith in
-    cond-true _ (position_of x xs + 1) 0 (lt-ltb (position_of x xs) (length xs) l) ∙ ap (λ j. j + 1) e
+    cond-true _ (Some (position_of x xs)) None (lt-ltb (position_of x xs) (length xs) l) ∙ ap Some e
 
-place-missing : (xs : List ℕ) (x : ℕ) → length xs ≤ position_of x xs → place_in xs x ≡ 0
-place-missing xs x h = cond-false _ (position_of x xs + 1) 0 (le-ltb (position_of x xs) (length xs) h)
+place-missing : (xs : List ℕ) (x : ℕ) → length xs ≤ position_of x xs → place_in xs x ≡ None
+place-missing xs x h = cond-false _ (Some (position_of x xs)) None (le-ltb (position_of x xs) (length xs) h)
 
 -- a mode that did not stand in the path comes behind it
 module _ (xs : List ℕ) (m : ℕ) (f : position_of m xs ≡ length xs) where
@@ -59,7 +59,7 @@ module _ (xs : List ℕ) (m : ℕ) (f : position_of m xs ≡ length xs) where
       let t : ◌≡◌ {A = ℕ} (cond (not (eqb m m)) 1 0) 0 = cond-false (not (eqb m m)) 1 0 (not_from_true (eqb m m) (eq-eqb m m refl)) in
       omega arith
 
-  place-last : place_in (xs ++ m ∷ []) m ≡ length xs + 1
+  place-last : place_in (xs ++ m ∷ []) m ≡ Some (length xs)
   place-last = place-there (xs ++ m ∷ []) m (length xs) position-last (simp length_push (omega arith))
 
   place_other : (x : ℕ) → (x ≡ m → ⊥) → place_in (xs ++ m ∷ []) x ≡ place_in xs x
@@ -80,65 +80,39 @@ module _ (xs : List ℕ) (m : ℕ) (f : position_of m xs ≡ length xs) where
           place-missing (xs ++ m ∷ []) x (simp length_push (omega arith)) ∙ sym (place-missing xs x h)
 
 -- a table has the places of a path's modes
-abbrev pub Placed : List ℕ → List ℕ → Type 0
-Placed places xs = (x : ℕ) → x < length places → get_or places x 0 ≡ place_in xs x
+abbrev pub Placed : List (Option ℕ) → List ℕ → Type 0
+Placed places xs = (x : ℕ) → x < length places → get_or places x (Some 0) ≡ place_in xs x
 
-pub placed-none : (n : ℕ) (places : List ℕ) → places ≡ replicate n 0 → length places ≡ n → Placed places []
-placed-none n places e l x h = ap (λ (t : List ℕ). get_or t x 0) e ∙ get_or-replicate n x 0 0 (omega arith)
+pub placed-none : (n : ℕ) (places : List (Option ℕ)) → places ≡ replicate n None → length places ≡ n → Placed places []
+placed-none n places e l x h = ap (λ (t : List (Option ℕ)). get_or t x (Some 0)) e ∙ get_or-replicate n x None (Some 0) (omega arith)
 
-pub placed-more : (places xs : List ℕ) (m : ℕ)
+pub placed-more : (places : List (Option ℕ)) (xs : List ℕ) (m : ℕ)
     → position_of m xs ≡ length xs
     → Placed places xs
-    → Placed (set places m (length xs + 1)) (xs ++ m ∷ [])
+    → Placed (set places m (Some (length xs))) (xs ++ m ∷ [])
 placed-more places xs m f p x h = ⊎_elim same other (cases_eq x m)
   where
     l : x < length places
-    l = let e : length (set places m (length xs + 1)) ≡ length places = length-set places m (length xs + 1) in omega arith
+    l = let e : length (set places m (Some (length xs))) ≡ length places = length-set places m (Some (length xs)) in omega arith
 
-    same : x ≡ m → get_or (set places m (length xs + 1)) x 0 ≡ place_in (xs ++ m ∷ []) x
+    same : x ≡ m → get_or (set places m (Some (length xs))) x (Some 0) ≡ place_in (xs ++ m ∷ []) x
     same e =
         let g = l in
         let i : m < length places = omega arith in
-        ap (λ k. get_or (set places m (length xs + 1)) k 0) e
-        ∙ get_or-set_same places m (length xs + 1) 0 i
+        ap (λ k. get_or (set places m (Some (length xs))) k (Some 0)) e
+        ∙ get_or-set_same places m (Some (length xs)) (Some 0) i
         ∙ sym (place-last xs m f)
         ∙ ap (place_in (xs ++ m ∷ [])) (sym e)
 
-    other : (x ≡ m → ⊥) → get_or (set places m (length xs + 1)) x 0 ≡ place_in (xs ++ m ∷ []) x
-    other n = get_or-set_other places m x (length xs + 1) 0 n ∙ p x l ∙ sym (place_other xs m f x n)
+    other : (x ≡ m → ⊥) → get_or (set places m (Some (length xs))) x (Some 0) ≡ place_in (xs ++ m ∷ []) x
+    other n = get_or-set_other places m x (Some (length xs)) (Some 0) n ∙ p x l ∙ sym (place_other xs m f x n)
 
 -- what the table tells of a mode
-pub placed-found : (places xs : List ℕ) (x : ℕ)
+pub placed-found : (places : List (Option ℕ)) (xs : List ℕ) (x : ℕ)
     → Placed places xs
     → (length places ≤ x → (position_of x xs ≡ 0) × (0 < length xs))
-    → placed_at places x ≡ cond (ltb (position_of x xs) (length xs)) (Some (position_of x xs)) None
-placed-found places xs x p out = ⊎_elim inside outside (cases_lt x (length places))
+    → placed_at places x ≡ place_in xs x
+placed-found places xs x p out = ⊎_elim (p x) outside (cases_lt x (length places))
   where
-    told : (k : ℕ) → get_or places x 0 ≡ k → x < length places → placed_at places x ≡ cond (eqb k 0) None (Some (k - 1))
-    told k e h =
-        cond-true _ _ _ (lt-ltb x (length places) h) ∙ ap (λ (j : ℕ). cond (eqb j 0) None (Some (j - 1))) e
-
-    inside : x < length places → placed_at places x ≡ cond (ltb (position_of x xs) (length xs)) (Some (position_of x xs)) None
-    inside h = ⊎_elim old new (cases_lt (position_of x xs) (length xs))
-      where
-        old : position_of x xs < length xs → placed_at places x ≡ cond (ltb (position_of x xs) (length xs)) (Some (position_of x xs)) None
-        old i =
-            let k = position_of x xs in
-            let z : (k + 1) - 1 ≡ k = omega arith in
-            told (k + 1) (p x h ∙ place-there xs x k refl i) h
-            ∙ cond-false (eqb (k + 1) 0) None (Some ((k + 1) - 1)) (ne_eqb (k + 1) 0 (λ q. omega arith))
-            ∙ ap Some z
-            ∙ sym (cond-true (ltb k (length xs)) (Some k) None (lt-ltb k (length xs) i))
-
-        new : length xs ≤ position_of x xs → placed_at places x ≡ cond (ltb (position_of x xs) (length xs)) (Some (position_of x xs)) None
-        new i =
-            told 0 (p x h ∙ place-missing xs x i) h
-            ∙ sym (cond-false (ltb (position_of x xs) (length xs)) (Some (position_of x xs)) None (le-ltb (position_of x xs) (length xs) i))
-
-    outside : length places ≤ x → placed_at places x ≡ cond (ltb (position_of x xs) (length xs)) (Some (position_of x xs)) None
-    outside h =
-        let o = out h in
-        let i : position_of x xs < length xs = omega arith in
-        cond-false (ltb x (length places)) _ (Some 0) (le-ltb x (length places) h)
-        ∙ ap Some (sym o.0)
-        ∙ sym (cond-true (ltb (position_of x xs) (length xs)) (Some (position_of x xs)) None (lt-ltb (position_of x xs) (length xs) i))
+    outside : length places ≤ x → placed_at places x ≡ place_in xs x
+    outside h = let o = out h in get_or_past places x (Some 0) h ∙ sym (place-there xs x 0 o.0 o.1)

@@ -1,5 +1,5 @@
 -- The walk that stays, one mode at a time.
-use Rattle.std.proofs.Common.{◌≡◌, ℕ, suc, ◌+◌, ◌-◌, ◌<◌, ◌≤◌, Bool, true, false, cond, ltb, List, [], ◌∷◌, ◌++◌, length, get_or, set, replicate, Some, None, sym, refl, ap, ◌∙◌, subst, ⊎_elim, arith}
+use Rattle.std.proofs.Common.{◌≡◌, ℕ, suc, ◌+◌, ◌-◌, ◌<◌, ◌≤◌, Bool, true, false, cond, ltb, List, [], ◌∷◌, ◌++◌, length, get_or, set, replicate, Some, None, Option, sym, refl, ap, ◌∙◌, subst, ⊎_elim, arith}
 use Rattle.std.proofs.lemmas.List.{get_or_past, length_push, length-set, length-replicate}
 use Rattle.std.proofs.lemmas.List.Sums.{prefix_len-le-length}
 use Rattle.std.proofs.lemmas.Bool.{cases_lt, ltb-false, cond-true, cond-false}
@@ -26,7 +26,7 @@ way-outside μ test m h = ap (λ (r : Row). first_of test m r.ways) (get_or_past
 
 module _ (μ : Meaning) (closes inside : ℕ → Bool) where
   -- where a walk has come: the rest of it, the places noted so far, a mode not passed before
-  pub record Walking (from : ℕ) (at step : ℕ) (before places : List ℕ) : Type 0 where
+  pub record Walking (from : ℕ) (at step : ℕ) (before : List ℕ) (places : List (Option ℕ)) : Type 0 where
     pub rest : staying μ closes inside (size μ) [] from ≡ staying μ closes inside (size μ - step) before at
     pub long : length before ≡ step
     pub table : length places ≡ size μ
@@ -34,9 +34,9 @@ module _ (μ : Meaning) (closes inside : ℕ → Bool) where
     pub unpassed : position_of at before ≡ length before
     pub begun : size μ ≤ at → step ≡ 0
 
-  pub walking-first : (m n : ℕ) (before places : List ℕ) → before ≡ [] → n ≡ size μ → places ≡ replicate n 0 → Walking m m 0 before places
+  pub walking-first : (m n : ℕ) (before : List ℕ) (places : List (Option ℕ)) → before ≡ [] → n ≡ size μ → places ≡ replicate n None → Walking m m 0 before places
   walking-first m n before places b e t =
-      let l : length places ≡ n = ap length t ∙ length-replicate n 0 in
+      let l : length places ≡ n = ap length t ∙ length-replicate n None in
       let d : size μ ≡ size μ - 0 = omega arith in
       record {
         rest = ap (λ (k : ℕ). staying μ closes inside k [] m) d ∙ ap (λ (xs : List ℕ). staying μ closes inside (size μ - 0) xs m) (sym b);
@@ -60,7 +60,7 @@ module _ (μ : Meaning) (closes inside : ℕ → Bool) where
   unfolding staying
   further k before m = refl
 
-  pub walking-ends : (from at step : ℕ) (before places : List ℕ)
+  pub walking-ends : (from at step : ℕ) (before : List ℕ) (places : List (Option ℕ))
       → Walking from at step before places
       → size μ ≤ step
       → staying μ closes inside (size μ) [] from ≡ record { modes = before ++ at ∷ []; returns = None }
@@ -68,7 +68,7 @@ module _ (μ : Meaning) (closes inside : ℕ → Bool) where
       let e : size μ - step ≡ 0 = omega arith in
       w.rest ∙ ap (λ (k : ℕ). staying μ closes inside k before at) e ∙ ended before at
 
-  module _ (from at step : ℕ) (before places : List ℕ) (w : Walking from at step before places) (h : step < size μ) where
+  module _ (from at step : ℕ) (before : List ℕ) (places : List (Option ℕ)) (w : Walking from at step before places) (h : step < size μ) where
     opened :
         staying μ closes inside (size μ) [] from
         ≡ cond (closes at) (record { modes = before ++ at ∷ []; returns = None })
@@ -82,7 +82,7 @@ module _ (μ : Meaning) (closes inside : ℕ → Bool) where
     pub walking-closes : closes at ≡ true → staying μ closes inside (size μ) [] from ≡ record { modes = before ++ at ∷ []; returns = None }
     walking-closes t = opened ∙ cond-true (closes at) _ _ t
 
-    module _ (l : Lawful μ) (c : closes at ≡ false) (x : ℕ) (places' : List ℕ) (e : x ≡ first_way μ inside at) (s : places' ≡ set places at (step + 1)) where
+    module _ (l : Lawful μ) (c : closes at ≡ false) (x : ℕ) (places' : List (Option ℕ)) (e : x ≡ first_way μ inside at) (s : places' ≡ set places at (Some step)) where
       onward :
           staying μ closes inside (size μ) [] from
           ≡ cond (ltb (position_of x (before ++ at ∷ [])) (length (before ++ at ∷ [])))
@@ -95,12 +95,12 @@ module _ (μ : Meaning) (closes inside : ℕ → Bool) where
           (staying μ closes inside (size μ - (step + 1)) (before ++ at ∷ []) y)) (sym e)
 
       table' : length places' ≡ size μ
-      table' = ap length s ∙ length-set places at (step + 1) ∙ w.table
+      table' = ap length s ∙ length-set places at (Some step) ∙ w.table
 
       placed' : Placed places' (before ++ at ∷ [])
       placed' =
-          subst (λ (t : List ℕ). Placed t (before ++ at ∷ []))
-          (ap (λ (k : ℕ). set places at (k + 1)) w.long ∙ sym s)
+          subst (λ (t : List (Option ℕ)). Placed t (before ++ at ∷ []))
+          (ap (λ (k : ℕ). set places at (Some k)) w.long ∙ sym s)
           (placed-more places before at w.unpassed w.placed)
 
       -- past the chart's modes the walk stands where it began

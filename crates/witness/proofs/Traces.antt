@@ -1,5 +1,5 @@
 -- A path from the operands as the code reads them, and what is told of it.
-use Rattle.std.proofs.Common.{◌≡◌, ℕ, ◌<◌, ◌≤◌, Bool, true, false, ◌&&◌, leb, List, [], ◌∷◌, ◌++◌, length, Ok, Err, Option, sym, ap, ◌∙◌}
+use Rattle.std.proofs.Common.{◌≡◌, ℕ, ◌<◌, ◌≤◌, Bool, true, false, ◌&&◌, leb, List, [], ◌∷◌, ◌++◌, length, get_or, Ok, Err, None, Option, sym, ap, ◌∙◌}
 use Rattle.std.proofs.lemmas.List.{length-reverse}
 use Rattle.std.proofs.lemmas.Bool.{cond-true, cond-false, le-leb, lt-leb}
 use Rattle.basis.specs.Stacks.{held}
@@ -7,7 +7,7 @@ use Rattle.basis.specs.Lines.{overlaid}
 use Rattle.basis.specs.declared.stack.Stack.{Stack}
 use Rattle.basis.specs.declared.refusal.Refusal.TheVariants.{ShortPath}
 use Rattle.ctl.specs.Chart.{Meaning, size}
-use Rattle.ctl.specs.Paths.{reads, first_way, staying}
+use Rattle.ctl.specs.Paths.{reads, first_way, numbers, descent, reaching, staying}
 use Rattle.witness.specs.Criteria.{read_by, both_read}
 use Rattle.witness.specs.Path.{path_on, laid_over}
 use Rattle.witness.specs.Showing.{told}
@@ -17,7 +17,7 @@ use Rattle.witness.proofs.Laid.{length-held}
 pub read_is : (r : Reading) (answer : Bool) (s : List Bool) → r.set.now ≡ s → r.answer ≡ answer → read_by r ≡ reads answer s
 read_is r answer s e f = ap (λ (b : Bool). reads b r.set.now) f ∙ ap (reads answer) e
 
--- a step, and a walk that stays, with the operands as the lines have them
+-- a step, a path that reaches, and a walk that stays, with the operands as the lines have them
 pub step-traced : (μ : Meaning) (test test' : ℕ → Bool) (m x : ℕ) (xs ys zs : List ℕ)
     → xs ≡ []
     → ys ≡ xs ++ m ∷ []
@@ -29,6 +29,20 @@ step-traced μ test test' m x xs ys zs a b c d e =
     c
     ∙ ap (λ (l : List ℕ). l ++ x ∷ []) (b ∙ ap (λ (l : List ℕ). l ++ m ∷ []) a)
     ∙ ap (λ (y : ℕ). m ∷ (y ∷ [])) (d ∙ ap (λ (t : ℕ → Bool). first_way μ t m) e)
+
+pub reach-traced : (μ ν : Meaning) (p q a b : ℕ → Bool) (m : ℕ) (ns xs ys : List ℕ)
+    → ν ≡ μ
+    → p ≡ a
+    → q ≡ b
+    → ns ≡ numbers ν p q
+    → xs ≡ []
+    → ys ≡ xs ++ descent μ ns (get_or ns m 0) m
+    → record { modes = ys; returns = None } ≡ reaching μ a b m
+reach-traced μ ν p q a b m ns xs ys v e f n x d =
+    let k : ns ≡ numbers μ a b =
+    n ∙ ap (λ (z : Meaning). numbers z p q) v ∙ ap (λ (t : ℕ → Bool). numbers μ t q) e ∙ ap (numbers μ a) f in
+    ap (λ (l : List ℕ). record { modes = l; returns = None })
+    (d ∙ ap (λ (l : List ℕ). l ++ descent μ ns (get_or ns m 0) m) x ∙ ap (λ (l : List ℕ). descent μ l (get_or l m 0) m) k)
 
 pub stay-traced : (μ : Meaning) (p q i : Reading) (a b c : ℕ → Bool) (m : ℕ)
     → read_by p ≡ a

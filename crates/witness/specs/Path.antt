@@ -1,5 +1,5 @@
 -- The path that a stack of modes holds, a buffer with a path laid over it, and the places of modes in a path.
-use Rattle.std.specs.Prelude.{ℕ, ◌-◌, cond, List, ◌++◌, reverse, length, drop, Some, None, Option, ◌==◌, nat_lt, slice_index}
+use Rattle.std.specs.Prelude.{ℕ, List, ◌++◌, reverse, length, drop, Some, Option, slice_index_or}
 use Rattle.basis.specs.Stacks.{held}
 use Rattle.basis.specs.declared.stack.Stack.{Stack}
 use Rattle.ctl.specs.Paths as paths
@@ -16,6 +16,6 @@ traced s place = record { modes = path_on s; returns = place }
 abbrev pub laid_over : List ℕ → List ℕ → List ℕ
 laid_over xs buffer = xs ++ drop (length xs) buffer
 
--- the place of a mode by a table of places, which count from 1, 0 being none; past the table's end the first place
-abbrev pub placed_at : List ℕ → ℕ → Option ℕ
-placed_at places m = cond (nat_lt m (length places)) (cond (slice_index places m == 0) None (Some (slice_index places m - 1))) (Some 0)
+-- the place of a mode by a table of places; past the table's end the first place
+abbrev pub placed_at : List (Option ℕ) → ℕ → Option ℕ
+placed_at places m = slice_index_or places m (Some 0)

@@ -1,10 +1,11 @@
-// A question about a mode, of which a walk takes the first way out that passes.
+// A question about a mode: a walk takes the first way out that passes.
 ghost use Rattle.std.specs.Prelude.{◌≡◌, ℕ, Bool, slice_index};
 ghost use Rattle.witness.specs.Criteria.{read_by, numbered_by, reached_by};
 
 use crate::reading::{Numbered, Reached, Reading};
 use rounds::set::is_member;
 
+// A trait and no closure: its `test` is the function that the definitions of the walks take.
 pub(crate) trait Criterion {
     ghost test: { Self → ℕ → Bool };
 
@@ -16,10 +17,7 @@ pub(crate) trait Criterion {
 pub(crate) fn number_of(numbers: &[u16], mode: u16) -> u16
     ensures { result ≡ slice_index numbers.now mode }
 {
-    match numbers.get(mode as usize) {
-        Some(number) => *number,
-        None => 0,
-    }
+    numbers.get(mode as usize).copied().unwrap_or(0)
 }
 
 impl<'a> Criterion for Reading<'a> {

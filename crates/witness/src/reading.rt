@@ -7,6 +7,14 @@ pub(crate) struct Reading<'a> {
     pub answer: bool,
 }
 
+// A chart, and both operands of a line read for an answer.
+#[derive(Drop)]
+pub(crate) struct Operands<'a, C> {
+    pub chart: &'a C,
+    pub left: Reading<'a>,
+    pub right: Reading<'a>,
+}
+
 // The modes with one number in a table.
 #[derive(Clone, Copy)]
 pub(crate) struct Numbered<'a> {

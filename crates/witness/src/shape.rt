@@ -1,7 +1,7 @@
 // Which path bears out an answer, from the line's rule.
 ghost use Rattle.std.specs.Prelude.{◌≡◌};
 ghost use Rattle.ctl.specs.Paths.{borne as borne_by, path_shape, shape_of};
-ghost use Rattle.witness.specs.Shapes.{plan_of, planned, planned_if};
+ghost use Rattle.witness.specs.Shapes.{plan_of, planned};
 
 use crate::plan::Plan;
 use ctl::{Quantifier, Rule, Temporal};
@@ -14,13 +14,6 @@ fn is_borne(quantifier: Quantifier, answer: bool) -> bool
         Quantifier::Exists => answer,
         Quantifier::Forall => !answer,
     }
-}
-
-// A plan where one run bears the answer out.
-fn plan_if(borne: bool, plan: Plan) -> Option<Plan>
-    ensures { planned result ≡ planned_if borne (plan_of plan) }
-{
-    if borne { Some(plan) } else { None }
 }
 
 // An until is reached and a release stays; where the answer is no, the other way round.
@@ -38,11 +31,10 @@ pub(crate) fn plan_for(rule: Rule, answer: bool) -> Option<Plan>
     ensures { planned result ≡ shape_of rule answer }
 {
     match rule {
-        Rule::Next(quantifier, p) => plan_if(is_borne(quantifier, answer), Plan::Step(p)),
-        Rule::Path(temporal, quantifier, p, q) => plan_if(
-            is_borne(quantifier, answer),
-            plan_path(temporal, answer, p, q),
-        ),
+        Rule::Next(quantifier, p) => is_borne(quantifier, answer).then_some(Plan::Step(p)),
+        Rule::Path(temporal, quantifier, p, q) => {
+            is_borne(quantifier, answer).then_some(plan_path(temporal, answer, p, q))
+        }
         _ => None,
     }
 }

@@ -2,19 +2,19 @@
 ghost use Rattle.std.specs.Prelude.{◌≡◌, ◌≤◌, [], length};
 ghost use Rattle.basis.specs.Lines.{overlaid};
 ghost use Rattle.ctl.specs.Rounds.{line_at};
-ghost use Rattle.ctl.specs.Paths.{shown};
+ghost use Rattle.ctl.specs.Paths.{reads, shown};
 ghost use Rattle.rounds.specs.Held.{progress_of};
+ghost use Rattle.witness.specs.Criteria.{read_by};
 ghost use Rattle.witness.specs.Path.{path_on, traced};
 ghost use Rattle.witness.specs.Shapes.{plan_of, shown_for};
 ghost use Rattle.witness.specs.Showing.{showing, told};
 
 use crate::laying::{add, deliver};
-use crate::numbers::find_numbers;
 use crate::plan::{Asked, Plan};
-use crate::reading::Reading;
+use crate::reading::{Operands, Reading};
 use crate::scratch::{Scratch, Shown, Tables};
 use crate::shape::plan_for;
-use crate::walks::{descend, stay};
+use crate::walks::descend;
 use crate::ways::first_way;
 use basis::{Refusal, Stack};
 use chart::Chart;
@@ -27,20 +27,34 @@ use rounds::set::is_member;
 fn rule_at(lines: &[Line], line: usize) -> Rule
     ensures { result ≡ (line_at (progress_of lines.now 0) line).rule }
 {
-    match lines.get(line) {
-        Some(found) => found.rule,
-        None => Rule::Constant(false),
-    }
+    lines
+        .get(line)
+        .map_or(Rule::Constant(false), |found| found.rule)
 }
 
-// A line read for the answer.
-fn read<'a>(asked: Asked<'a>, line: usize) -> Reading<'a>
-    ensures set { result.set.now ≡ (line_at (progress_of asked.entry.lines.now 0) line).members }
-    ensures answer { result.answer ≡ asked.entry.answer }
-{
-    Reading {
-        set: members(asked.lines, line),
-        answer: asked.answer,
+impl<'a> Asked<'a> {
+    // A line read for the answer.
+    fn read(&self, line: usize) -> Reading<'a>
+        ensures set { result.set.now ≡ (line_at (progress_of self.now.lines.now 0) line).members }
+        ensures answer { result.answer ≡ self.now.answer }
+    {
+        Reading {
+            set: members(self.lines, line),
+            answer: self.answer,
+        }
+    }
+
+    // Both operands read for the answer, with the chart that they are asked on.
+    fn operands<C: Chart>(&self, chart: &'a C, left: usize, right: usize) -> Operands<'a, C>
+        ensures chart { result.chart.now ≡ chart.now }
+        ensures left { read_by result.left ≡ reads self.now.answer (line_at (progress_of self.now.lines.now 0) left).members }
+        ensures right { read_by result.right ≡ reads self.now.answer (line_at (progress_of self.now.lines.now 0) right).members }
+    {
+        Operands {
+            chart,
+            left: self.read(left),
+            right: self.read(right),
+        }
     }
 }
 
@@ -62,22 +76,19 @@ fn trace<C: Chart>(
     match plan {
         Plan::Step(p) => {
             add(path, mode);
-            add(path, first_way(chart, &read(asked, p), mode));
+            add(path, first_way(chart, &asked.read(p), mode));
             None
         }
         Plan::Reach(p, q) => {
-            let passing = read(asked, p);
-            let ending = read(asked, q);
-            let numbers = &mut tables.numbers;
-            find_numbers(chart, passing, ending, numbers, &mut tables.next);
-            descend(chart, numbers, mode, path);
+            asked.operands(chart, p, q).find_numbers(tables);
+            descend(chart, tables.numbers.as_slice(), mode, path);
             None
         }
         Plan::Stay(p, q) => {
-            let left = read(asked, p);
-            let right = read(asked, q);
-            let inside = read(asked, asked.line);
-            stay(chart, left, right, inside, mode, &mut tables.numbers, path)
+            let inside = asked.read(asked.line);
+            asked
+                .operands(chart, p, q)
+                .stay(inside, mode, &mut tables.places, path)
         }
     }
 }
