@@ -8,7 +8,6 @@ pub mod memory;
 mod placing;
 mod plan;
 pub mod shape;
-mod stack;
 #[cfg(test)]
 mod tests;
 mod writing;
