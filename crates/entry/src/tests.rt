@@ -23,9 +23,7 @@ impl Bench {
         let scratch = Scratch::new(heap)?;
         let mut lines = Vec::new(heap);
         for _ in 0..64 {
-            if lines.push(Line::new(heap)?).is_err() {
-                return Err(Refusal::Memory);
-            }
+            lines.push(Line::new(heap)?)?;
         }
         let tally = Tally {
             lines: 0,

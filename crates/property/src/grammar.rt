@@ -1,5 +1,5 @@
 // Fitting tokens to the grammar with an explicit stack of waiting tokens.
-ghost use Rattle.std.specs.Prelude.{◌≡◌, ℕ, ◌+◌, ◌<◌, ◌≤◌, ◌&&◌, [], ◌∷◌, ◌++◌, length, if◌then◌else◌, Ok, Err, false, true};
+ghost use Rattle.std.specs.Prelude.{◌≡◌, ◌+◌, ◌<◌, ◌&&◌, [], ◌∷◌, ◌++◌, length, if◌then◌else◌, Ok, Err, false, true};
 ghost use Rattle.std.specs.Result.{result_and};
 ghost use Rattle.property.specs.Forming.{word_of};
 ghost use Rattle.property.specs.Lists.{listed};

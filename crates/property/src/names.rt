@@ -1,5 +1,5 @@
 // The list of names: name k is mark k. Names are looked up in the list as it is lent, without a copy.
-ghost use Rattle.std.specs.Prelude.{◌≡◌, ℕ, ◌+◌, ◌≤◌, length, if◌then◌else◌, Ok, Err};
+ghost use Rattle.std.specs.Prelude.{◌≡◌, ◌+◌, ◌≤◌, length, if◌then◌else◌, Ok, Err};
 ghost use Rattle.std.specs.Iterator.{YieldsFirstRef, item_count};
 ghost use Rattle.basis.specs.declared.refusal.Refusal.TheVariants.{NameList};
 ghost use Rattle.property.specs.Lists.{remaining as names_in, listed, place_of, proper, good_list, Listed};

@@ -1,5 +1,5 @@
 // The parts of a property in postfix order, in memory that is taken once.
-ghost use Rattle.std.specs.Prelude.{◌≡◌, ℕ, ◌<◌, [], ◌∷◌, ◌++◌, length, MatchResult};
+ghost use Rattle.std.specs.Prelude.{◌≡◌, ◌<◌, [], ◌∷◌, ◌++◌, length, MatchResult};
 ghost use Rattle.basis.specs.declared.refusal.Refusal.TheVariants.{Memory};
 
 use crate::shape::Part;

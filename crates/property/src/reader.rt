@@ -1,5 +1,5 @@
 // The reader of tokens stands over the borrowed text; it advances, and never copies.
-ghost use Rattle.std.specs.Prelude.{◌≡◌, ℕ, ◌+◌, ◌<◌, ◌≤◌, length, drop, None};
+ghost use Rattle.std.specs.Prelude.{◌≡◌, ◌+◌, ◌<◌, ◌≤◌, length, drop, None};
 ghost use Rattle.property.specs.Words.{form, letters, letters_of};
 ghost use Rattle.property.specs.Forming.{word_of, waiting, unread, place_in, turn_of, turned, answer_to, viewed, taken};
 

@@ -1,10 +1,10 @@
 // Reading a text: its list of names, its length, then its tokens from left to right.
-ghost use Rattle.std.specs.Prelude.{◌≡◌, ℕ, ◌+◌, ◌≤◌, false, [], ◌∷◌, ◌++◌, length, Ok, vec_len, Result};
+ghost use Rattle.std.specs.Prelude.{◌≡◌, ℕ, ◌≤◌, false, [], ◌∷◌, length, Ok, Result};
 ghost use Rattle.property.specs.Words.{scan};
 ghost use Rattle.property.specs.Lists.{listed};
 ghost use Rattle.basis.specs.declared.refusal.Refusal.{Refusal};
 ghost use Rattle.property.specs.Syntax.{Syntax, built};
-ghost use Rattle.property.specs.Reading.{reading, fits_length, outcome, parts_of};
+ghost use Rattle.property.specs.Reading.{reading, outcome, parts_of};
 ghost use Rattle.property.specs.Laws.{Reads};
 ghost use Rattle.property.specs.Flat.{fit_all, with_parts, as_parts};
 
@@ -13,7 +13,6 @@ use crate::names::check_names;
 use crate::postfix::Parts;
 use crate::reader::TokenReader;
 use crate::shape::{Tag, UnaryOperator, Waiting};
-use crate::tokens::Placed;
 use basis::Refusal;
 
 // Reads a text over the names of so many marks. The parts are those of its tree, in postfix order; after a refusal there
@@ -38,18 +37,11 @@ fn read_checked(names: &[u8], marks: usize, text: &[u8], parts: &mut Parts) -> R
     ensures { with_parts result parts.new.list ≡ as_parts (reading names.now marks text.now) }
 {
     check_names(names, marks)?;
-    if !fits(text) {
+    if !(1..=255).contains(&text.len()) {
         return Err(Refusal::TextLength);
     }
     parts.clear();
     read_text(names, text, parts)
-}
-
-// Whether a text has 1 to 255 bytes.
-fn fits(text: &[u8]) -> bool
-    ensures { result ≡ fits_length text.now }
-{
-    (1..=255).contains(&text.len())
 }
 
 // Takes token after token, and leaves with the first fault of forming, fitting or look-up.
