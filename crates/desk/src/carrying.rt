@@ -56,124 +56,69 @@ fn finish<'a, C: Chart>(sheet: Sheet<C>) -> Step<'a, C>
 fn cut(answer: Result<Shown, Refusal>, mut path: Vec<u16>) -> Result<Path, Refusal>
     ensures { path_in result ≡ cut_to answer path.items }
 {
-    match answer {
-        Ok(shown) => {
-            path.truncate(shown.modes);
-            Ok(Path {
-                modes: path,
-                returns: shown.returns,
-            })
+    answer.map(|shown| {
+        path.truncate(shown.modes);
+        Path {
+            modes: path,
+            returns: shown.returns,
         }
-        Err(refusal) => Err(refusal),
-    }
+    })
 }
 
-// The path of a line on a sheet.
-fn path_on_sheet<C: Chart>(
-    sheet: &mut Sheet<C>,
-    line: usize,
-    mode: u16,
-    mut path: Vec<u16>,
-) -> Result<Path, Refusal>
-    ensures answer { path_in result ≡ showing (C.Chart.meaning sheet.old.chart) (state_of sheet.old.work) line mode (vec_len path) }
-    ensures after { state_of sheet.new.work ≡ state_of sheet.old.work }
-    ensures chart { sheet.new.chart ≡ sheet.old.chart }
-{
-    let shown = sheet.show(line, mode, &mut path);
-    cut(shown, path)
-}
-
-// The path of a line in a book.
-fn path_in_book<C: Chart>(
-    book: &mut Book<C>,
-    line: usize,
-    mode: u16,
-    mut path: Vec<u16>,
-) -> Result<Path, Refusal>
-    ensures answer { path_in result ≡ showing (C.Chart.meaning book.old.chart) (state_of book.old.work) line mode (vec_len path) }
-    ensures after { state_of book.new.work ≡ state_of book.old.work }
-    ensures chart { book.new.chart ≡ book.old.chart }
-{
-    let shown = book.show(line, mode, &mut path);
-    cut(shown, path)
-}
-
-// A step after which the sheet is still a sheet.
-fn as_sheet<'a, C: Chart>(event: Event<'a>, sheet: Sheet<C>) -> Step<'a, C>
-    ensures event { event_of result.event ≡ event_of event.entry }
-    ensures after { standing_of result.desk ≡ as_sheet (state_of sheet.work) }
+// A call on a sheet, which has every one but reopening.
+fn on_sheet<'a, C: Chart>(mut sheet: Sheet<C>, call: Call<'a>, mut path: Vec<u16>) -> Step<'a, C>
+    requires { vec_len path ≡ room_of call }
+    ensures event { event_of result.event ≡ (on_sheet (C.Chart.meaning sheet.chart) (state_of sheet.work) (call_of call.entry)).event }
+    ensures after { standing_of result.desk ≡ (on_sheet (C.Chart.meaning sheet.chart) (state_of sheet.work) (call_of call.entry)).after }
     ensures chart { chart_of result.desk ≡ sheet.chart }
 {
+    let event = match call {
+        Call::Enter(names, text) => Event::Entered(names, text, sheet.enter(names, text)),
+        Call::Advance(budget) => Event::Advanced(budget, sheet.advance(budget)),
+        Call::Ask(line, mode) => Event::Asked(line, mode, sheet.ask(line, mode)),
+        Call::Count => Event::Counted(sheet.count()),
+        Call::Show(line, mode, room) => {
+            let shown = sheet.show(line, mode, &mut path);
+            Event::Shown(line, mode, room, cut(shown, path))
+        }
+        Call::Clear => {
+            sheet.clear();
+            Event::Cleared
+        }
+        Call::Finish => return finish(sheet),
+        Call::Reopen => Event::Barred(call),
+    };
     Step {
         desk: Desk::Sheet(sheet),
         event,
     }
 }
 
-// A call on a sheet, which has every one but reopening.
-fn on_sheet<'a, C: Chart>(mut sheet: Sheet<C>, call: Call<'a>, path: Vec<u16>) -> Step<'a, C>
-    requires { vec_len path ≡ room_of call }
-    ensures event { event_of result.event ≡ (on_sheet (C.Chart.meaning sheet.chart) (state_of sheet.work) (call_of call.entry)).event }
-    ensures after { standing_of result.desk ≡ (on_sheet (C.Chart.meaning sheet.chart) (state_of sheet.work) (call_of call.entry)).after }
-    ensures chart { chart_of result.desk ≡ sheet.chart }
-{
-    match call {
-        Call::Enter(names, text) => as_sheet(
-            Event::Entered(names, text, sheet.enter(names, text)),
-            sheet,
-        ),
-        Call::Advance(budget) => as_sheet(Event::Advanced(budget, sheet.advance(budget)), sheet),
-        Call::Ask(line, mode) => as_sheet(Event::Asked(line, mode, sheet.ask(line, mode)), sheet),
-        Call::Count => as_sheet(Event::Counted(sheet.count()), sheet),
-        Call::Show(line, mode, room) => as_sheet(
-            Event::Shown(
-                line,
-                mode,
-                room,
-                path_on_sheet(&mut sheet, line, mode, path),
-            ),
-            sheet,
-        ),
-        Call::Clear => {
-            sheet.clear();
-            as_sheet(Event::Cleared, sheet)
-        }
-        Call::Finish => finish(sheet),
-        Call::Reopen => as_sheet(Event::Barred(call), sheet),
-    }
-}
-
-// A step after which the book is still a book.
-fn as_book<'a, C: Chart>(event: Event<'a>, book: Book<C>) -> Step<'a, C>
-    ensures event { event_of result.event ≡ event_of event.entry }
-    ensures after { standing_of result.desk ≡ as_book (state_of book.work) }
-    ensures chart { chart_of result.desk ≡ book.chart }
-{
-    Step {
-        desk: Desk::Book(book),
-        event,
-    }
-}
-
 // A call on a book, which is asked, counted, shown and reopened, and nothing else.
-fn on_book<'a, C: Chart>(mut book: Book<C>, call: Call<'a>, path: Vec<u16>) -> Step<'a, C>
+fn on_book<'a, C: Chart>(mut book: Book<C>, call: Call<'a>, mut path: Vec<u16>) -> Step<'a, C>
     requires { vec_len path ≡ room_of call }
     ensures event { event_of result.event ≡ (on_book (C.Chart.meaning book.chart) (state_of book.work) (call_of call.entry)).event }
     ensures after { standing_of result.desk ≡ (on_book (C.Chart.meaning book.chart) (state_of book.work) (call_of call.entry)).after }
     ensures chart { chart_of result.desk ≡ book.chart }
 {
-    match call {
-        Call::Ask(line, mode) => as_book(Event::Asked(line, mode, book.ask(line, mode)), book),
-        Call::Count => as_book(Event::Counted(book.count()), book),
-        Call::Show(line, mode, room) => as_book(
-            Event::Shown(line, mode, room, path_in_book(&mut book, line, mode, path)),
-            book,
-        ),
-        Call::Reopen => as_sheet(Event::Reopened, book.reopen()),
-        Call::Enter(_, _) => as_book(Event::Barred(call), book),
-        Call::Advance(_) => as_book(Event::Barred(call), book),
-        Call::Clear => as_book(Event::Barred(call), book),
-        Call::Finish => as_book(Event::Barred(call), book),
+    let event = match call {
+        Call::Ask(line, mode) => Event::Asked(line, mode, book.ask(line, mode)),
+        Call::Count => Event::Counted(book.count()),
+        Call::Show(line, mode, room) => {
+            let shown = book.show(line, mode, &mut path);
+            Event::Shown(line, mode, room, cut(shown, path))
+        }
+        Call::Reopen => {
+            return Step {
+                desk: Desk::Sheet(book.reopen()),
+                event: Event::Reopened,
+            };
+        }
+        Call::Enter(..) | Call::Advance(_) | Call::Clear | Call::Finish => Event::Barred(call),
+    };
+    Step {
+        desk: Desk::Book(book),
+        event,
     }
 }
 
@@ -190,23 +135,13 @@ fn on_desk<'a, C: Chart>(desk: Desk<C>, task: Task<'a>) -> Step<'a, C>
     }
 }
 
-// A sheet without lines on a desk.
-fn set_up<C: Chart>(heap: Global, chart: C) -> Result<Desk<C>, C>
-    ensures { MatchResult result (λ d. (chart_of d ≡ chart) × (standing_of d ≡ clean_desk)) (λ c. c ≡ chart) }
-{
-    match Sheet::new(heap, chart) {
-        Ok(sheet) => Ok(Desk::Sheet(sheet)),
-        Err(chart) => Err(chart),
-    }
-}
-
 impl<C: Chart> Desk<C> {
     // A clean desk: a sheet without lines; where there is no memory for it the chart comes back.
     pub fn new(heap: Global, chart: C) -> Result<Desk<C>, C>
         ensures made { MatchResult result (λ d. (chart_of d ≡ chart) × (standing_of d ≡ clean_desk)) (λ c. c ≡ chart) }
         ensures leads { IfOk result (λ d. LeadsTo (C.Chart.meaning (chart_of d)) [] [] (standing_of d)) }
     {
-        set_up(heap, chart)
+        Sheet::new(heap, chart).map(Desk::Sheet)
     }
 
     // Carries out one call. Where the calls before led from a clean desk to this one with a log, the log with this event

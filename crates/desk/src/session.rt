@@ -21,16 +21,6 @@ fn prepare<'a>(heap: Global, calls: &[Call<'a>]) -> Result<Vec<Task<'a>>, AllocE
     Ok(tasks)
 }
 
-// One event more in the log, whose room is reserved.
-fn note<'a>(log: &mut Vec<Event<'a>>, event: Event<'a>)
-    requires { vec_len log.old < vec_capacity log.old }
-    ensures items { log.new.items ≡ log.old.items ++ event.entry ∷ [] }
-    ensures len { vec_len log.new ≡ vec_len log.old + 1 }
-    ensures capacity { vec_capacity log.new ≡ vec_capacity log.old }
-{
-    log.push_reserved(event);
-}
-
 // The calls one after another, each with its event in the log.
 fn run<'a, C: Chart>(
     mut desk: Desk<C>,
@@ -46,7 +36,7 @@ fn run<'a, C: Chart>(
     for task in tasks {
         let Step { desk: next, event } = desk.carry_out(task);
         desk = next;
-        note(&mut log, event);
+        log.push_reserved(event);
     }
     Session { log, desk }
 }
@@ -68,8 +58,6 @@ pub fn perform<'a, C: Chart>(
     let Ok(log) = Vec::with_capacity(heap, tasks.len()) else {
         return Err(chart);
     };
-    match Desk::new(heap, chart) {
-        Ok(desk) => Ok(run(desk, tasks, log)),
-        Err(chart) => Err(chart),
-    }
+    let desk = Desk::new(heap, chart)?;
+    Ok(run(desk, tasks, log))
 }
