@@ -79,7 +79,10 @@ fn on_sheet<'a, C: Chart>(mut sheet: Sheet<C>, call: Call<'a>, mut path: Vec<u16
         Call::Count => Event::Counted(sheet.count()),
         Call::Show(line, mode, room) => {
             let shown = sheet.show(line, mode, &mut path);
-            Event::Shown(line, mode, room, cut(shown, path))
+            return Step {
+                desk: Desk::Sheet(sheet),
+                event: Event::Shown(line, mode, room, cut(shown, path)),
+            };
         }
         Call::Clear => {
             sheet.clear();
@@ -106,7 +109,10 @@ fn on_book<'a, C: Chart>(mut book: Book<C>, call: Call<'a>, mut path: Vec<u16>) 
         Call::Count => Event::Counted(book.count()),
         Call::Show(line, mode, room) => {
             let shown = book.show(line, mode, &mut path);
-            Event::Shown(line, mode, room, cut(shown, path))
+            return Step {
+                desk: Desk::Book(book),
+                event: Event::Shown(line, mode, room, cut(shown, path)),
+            };
         }
         Call::Reopen => {
             return Step {

@@ -1,12 +1,19 @@
 -- What asking answers, by its three ways.
-use Rattle.std.proofs.Common.{◌≡◌, ℕ, ◌<◌, ◌≤◌, ltb, length, Ok, Err, Result, sym, ap, ◌∙◌}
+use Rattle.std.proofs.Common.{◌≡◌, ℕ, ◌<◌, ◌≤◌, ltb, length, Ok, Err, Result, sym, ap, ◌∙◌, arith}
 use Rattle.std.proofs.lemmas.Bool.{lt-ltb, le-ltb}
+use Rattle.std.proofs.lemmas.Bool.Decides.{nat_tests}
 use Rattle.basis.specs.declared.refusal.Refusal.{Refusal}
 use Rattle.basis.specs.declared.refusal.Refusal.TheVariants.{NoSuchLine, NoSuchMode}
 use Rattle.ctl.specs.Chart.{Meaning, size}
 use Rattle.ctl.specs.Rounds.{Line, verdict, line_at}
 use Rattle.ctl.specs.declared.rule.Verdict.{Verdict}
-use Rattle.sheet.specs.State.{State, asked, told_by}
+use Rattle.sheet.specs.State.{State, asked, placed, told_by}
+
+pub placed-within : (n k i m : ℕ) (u : Unit {0}) → Ok u ≡ placed n k i m → (i < n) × (m < k)
+placed-within n k i m u e = grind (arith, nat_tests)
+
+pub asked-refused : (μ : Meaning) (s : State) (i m : ℕ) (e : Refusal) → Err e ≡ placed (length s.progress.lines) (size μ) i m → Err e ≡ asked μ s i m
+asked-refused μ s i m e h = grind (arith, nat_tests)
 
 pub asked-no-line : (μ : Meaning) (s : State) (i m : ℕ) → length s.progress.lines ≤ i → Err NoSuchLine ≡ asked μ s i m
 asked-no-line μ s i m h = rw (le-ltb i (length s.progress.lines) h)

@@ -1,5 +1,5 @@
 -- The lines in use are the front of the lines that are held.
-use Rattle.std.proofs.Common.{◌≡◌, ℕ, ◌-◌, ◌<◌, ◌≤◌, List, length, get_or, take, vec_items, sym, ap, ◌∙◌, arith}
+use Rattle.std.proofs.Common.{◌≡◌, ℕ, ◌<◌, ◌≤◌, List, length, get_or, take, vec_items, sym, ap, ◌∙◌, arith}
 use Rattle.std.proofs.lemmas.List.{length-take-le, length-map, get_or-take}
 use Rattle.ctl.specs.Rounds as rounds
 use Rattle.rounds.specs.Held.{held_line}
@@ -24,5 +24,5 @@ line-used w i l h e =
     line-found (take n (vec_items w.lines)) i l rounds.no_line (omega arith) (e ∙ sym (get_or-take n (vec_items w.lines) i l h))
 
 -- what is lent of the lines is those in use
-pub lent-used : (w : Work) (ls : List Line) → ls ≡ vec_items w.lines → take (w.tally.lines - 0) ls ≡ take w.tally.lines (vec_items w.lines)
-lent-used w ls e = let z : w.tally.lines - 0 ≡ w.tally.lines = omega arith in ap (λ (k : ℕ). take k ls) z ∙ ap (take w.tally.lines) e
+pub lent-used : (w : Work) (ls : List Line) → ls ≡ vec_items w.lines → take w.tally.lines ls ≡ take w.tally.lines (vec_items w.lines)
+lent-used w ls e = ap (take w.tally.lines) e

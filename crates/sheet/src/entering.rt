@@ -23,18 +23,14 @@ impl Work {
         if self.entries.len() >= 32 {
             return Err(Refusal::SheetFull);
         }
-        match write_lines(
+        let line = write_lines(
             chart,
             self.parts.as_slice(),
             &mut self.lines,
             &mut self.tally,
             &mut self.writing,
-        ) {
-            Ok(line) => {
-                self.entries.push_reserved(line);
-                Ok(line)
-            }
-            Err(refusal) => Err(refusal),
-        }
+        )?;
+        self.entries.push_reserved(line);
+        Ok(line)
     }
 }

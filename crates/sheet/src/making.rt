@@ -1,6 +1,6 @@
 // Memory for a sheet is taken once, when it is made.
 ghost use Rattle.sheet.specs.State.{emptied, state_of};
-ghost use Rattle.std.specs.Prelude.{◌≡◌, ◌≤◌, [], IfOk, vec_len, vec_capacity};
+ghost use Rattle.std.specs.Prelude.{◌≡◌, IfOk, vec_len};
 
 use crate::work::Work;
 use basis::Refusal;
@@ -10,22 +10,12 @@ use report::Draft;
 use rounds::{Line, ModeSet};
 use std::alloc::Global;
 
-// A vector with room for so many elements, or want of memory.
-fn room<T>(heap: Global, count: usize) -> Result<Vec<T>, Refusal>
-    ensures { IfOk result (λ v. (v.items ≡ []) × ((vec_len v ≡ 0) × (count ≤ vec_capacity v))) }
-{
-    match Vec::with_capacity(heap, count) {
-        Ok(v) => Ok(v),
-        Err(_) => Err(Refusal::Memory),
-    }
-}
-
 // 64 places for lines.
 fn blank_lines(heap: Global) -> Result<Vec<Line>, Refusal>
     ensures { IfOk result (λ v. vec_len v ≡ 64) }
 {
-    let mut lines = room(heap, 64)?;
-    for i in 0..64u8 {
+    let mut lines = Vec::with_capacity(heap, 64)?;
+    for _ in 0..64u8 {
         lines.push_reserved(Line::new(heap)?);
     }
     Ok(lines)
@@ -37,7 +27,7 @@ impl Work {
         ensures { IfOk result (λ w. state_of w ≡ emptied) }
     {
         let lines = blank_lines(heap)?;
-        let entries = room(heap, 32)?;
+        let entries = Vec::with_capacity(heap, 32)?;
         let next = ModeSet::new(heap)?;
         let parts = Parts::new(heap)?;
         let writing = Scratch::new(heap)?;

@@ -44,33 +44,15 @@ fn report_line(lines: &[Line], settled: usize, line: usize, mode: u16) -> Report
     }
 }
 
-// What the heading says of the chart.
-#[derive(Clone, Copy)]
-struct Heading {
-    modes: u16,
-    marks: usize,
-    start: u16,
-}
-
-// The heading, and a row for each entry.
-fn draft_rows(
-    draft: &mut Draft,
-    heading: Heading,
-    lines: &[Line],
-    settled: usize,
-    entries: &[usize],
-)
-    requires { length entries.now ≤ 32 }
-    ensures { drafted draft.new ≡ so_far heading.modes heading.marks heading.start (rows_of (progress_of lines.now settled) heading.start entries.now) }
+// A row for each entry, below the heading.
+fn draft_rows(draft: &mut Draft, lines: &[Line], settled: usize, start: u16, entries: &[usize])
+    requires blank { standing draft.old ≡ 0 }
+    requires few { length entries.now ≤ 32 }
+    ensures { (modes marks begin : ℕ) → drafted draft.old ≡ heading_line modes marks begin → drafted draft.new ≡ so_far modes marks begin (rows_of (progress_of lines.now settled) start entries.now) }
 {
-    draft.begin(
-        heading.modes as usize,
-        heading.marks,
-        heading.start as usize,
-    );
     for entry in entries {
-        let line = report_line(lines, settled, *entry, heading.start);
-        draft.row(*entry, line.answer, line.rounds as usize);
+        let Reported { answer, rounds } = report_line(lines, settled, *entry, start);
+        draft.row(*entry, answer, rounds as usize);
     }
 }
 
@@ -84,17 +66,14 @@ impl Work {
     {
         let counts = self.count();
         let most = self.most_rounds(chart);
-        let heading = Heading {
-            modes: chart.modes(),
-            marks: chart.marks(),
-            start: chart.start(),
-        };
-        let count = self.tally.lines;
+        let start = chart.start();
+        self.draft
+            .begin(chart.modes() as usize, chart.marks(), start as usize);
         draft_rows(
             &mut self.draft,
-            heading,
-            &self.lines[0..count],
+            &self.lines[..self.tally.lines],
             self.tally.settled,
+            start,
             &self.entries,
         );
         self.draft.write(counts.rounds, most as usize, out)

@@ -23,10 +23,10 @@ impl<C: Chart> Sheet<C> {
         ensures made { MatchResult result (λ s. (s.chart ≡ chart) × (state_of s.work ≡ emptied)) (λ c. c ≡ chart) }
         ensures sound { IfOk result (λ s. Sound (C.Chart.meaning s.chart) (state_of s.work).progress) }
     {
-        match Work::new(heap) {
-            Ok(work) => Ok(Sheet { chart, work }),
-            Err(_) => Err(chart),
-        }
+        let Ok(work) = Work::new(heap) else {
+            return Err(chart);
+        };
+        Ok(Sheet { chart, work })
     }
 
     // Writes the lines of a text's normal form and answers its own line, or refuses and leaves all as it was.

@@ -1,19 +1,12 @@
 // Showing the path that bears out an answer.
 ghost use Rattle.basis.specs.Lines.{overlaid};
 ghost use Rattle.sheet.specs.State.{modes_of, showing, state_of, told};
-ghost use Rattle.std.specs.Prelude.{◌≡◌, length, nat_le};
+ghost use Rattle.std.specs.Prelude.{◌≡◌, length};
 
 use crate::work::Work;
 use basis::Refusal;
 use chart::Chart;
 use witness::Shown;
-
-// Whether a line still waits for rounds: the first so many lines are settled.
-fn is_waiting(line: usize, settled: usize) -> bool
-    ensures { result ≡ nat_le settled line }
-{
-    line >= settled
-}
 
 impl Work {
     // Lays the path for a settled line's answer at a mode into a buffer from its beginning and leaves the rest; answers
@@ -29,19 +22,13 @@ impl Work {
         ensures buffer { path.new ≡ overlaid (modes_of (showing (C.Chart.meaning chart.now) (state_of self.old) line mode (length path.old))) path.old }
         ensures after { state_of self.new ≡ state_of self.old }
     {
-        if line >= self.tally.lines {
-            return Err(Refusal::NoSuchLine);
-        }
-        if mode >= chart.modes() {
-            return Err(Refusal::NoSuchMode);
-        }
-        if is_waiting(line, self.tally.settled) {
+        self.check(chart, line, mode)?;
+        if line >= self.tally.settled {
             return Err(Refusal::NotSettled);
         }
-        let count = self.tally.lines;
         witness::show(
             chart,
-            &self.lines[0..count],
+            &self.lines[..self.tally.lines],
             line,
             mode,
             &mut self.showing,

@@ -8,7 +8,9 @@ use property::postfix::Parts;
 use report::Draft;
 use rounds::{Line, ModeSet};
 
-// Room for 64 lines and 32 entries, of which some are in use; what lies past the tally is no part of the sheet.
+// Room for 64 lines and 32 entries, of which some are in use; what lies past the tally is no part of the sheet. The
+// places stay when lines go, since all memory is taken when the sheet is made, and the one tally is lent while a text's
+// lines are written.
 #[derive(Drop)]
 pub struct Work {
     pub(crate) lines: Vec<Line>,

@@ -10,18 +10,19 @@ use Rattle.sheet.proofs.reporting.draft_rows.Goals as goal
 pub loop-entry-preserved : goal.loop-entry-preserved
 loop-entry-preserved c =
     let p = progress_of c.args.lines.now c.args.settled in
-    let h = c.args.heading in
+    let m = c.args.start in
     let i = c.loop-entry.entry-index in
     let below : i < 32 = omega arith in
-    let e = c.report_line-line.ensures in (
-      row_more p h.start h.modes h.marks h.start c.args.entries.now i (get_or c.args.entries.now i 0) (drafted c.loop-entry.draft) (drafted c.row.new.self) (standing c.loop-entry.draft)
-          c.report_line-line.result.answer c.report_line-line.result.rounds c.loop-entry-test.true c.requires (get_or_default c.args.entries.now i 0 (get_or c.args.entries.now i 0) c.loop-entry-test.true) c.loop-entry.invariant.1 c.loop-entry.invariant.0 e.answer e.rounds c.row.ensures.text,
+    let e = c.report_line-answer.ensures in (
+      λ modes marks begin h.
+          row_more p m modes marks begin c.args.entries.now i (get_or c.args.entries.now i 0) (drafted c.loop-entry.draft) (drafted c.row.new.self) (standing c.loop-entry.draft)
+          c.report_line-answer.result.answer c.report_line-answer.result.rounds c.loop-entry-test.true c.requires.few (get_or_default c.args.entries.now i 0 (get_or c.args.entries.now i 0) c.loop-entry-test.true) c.loop-entry.invariant.1 (c.loop-entry.invariant.0 modes marks begin h) e.answer e.rounds c.row.ensures.text,
       count-more i (standing c.row.new.self) below (c.row.ensures.count ∙ ap counted c.loop-entry.invariant.1),
     )
 
 pub returns : goal.returns
 returns c =
     let p = progress_of c.args.lines.now c.args.settled in
-    let h = c.args.heading in
-    c.loop-entry.invariant.0
-    ∙ ap (λ (es : List ℕ). so_far h.modes h.marks h.start (rows_of p h.start es)) (take_all c.loop-entry.entry-index c.args.entries.now (omega arith))
+    λ modes marks begin h.
+    c.loop-entry.invariant.0 modes marks begin h
+    ∙ ap (λ (es : List ℕ). so_far modes marks begin (rows_of p c.args.start es)) (take_all c.loop-entry.entry-index c.args.entries.now (omega arith))

@@ -1,23 +1,30 @@
-use Rattle.std.proofs.Common.{arith}
+use Rattle.std.proofs.Common.{◌≡◌, Err, ◌∙◌, rules, arith}
+use Rattle.ctl.specs.Chart.{size}
 use Rattle.rounds.specs.Held.{held_line}
 use Rattle.sheet.specs.State.{state_of}
 use Rattle.sheet.proofs.Fronts.{lines-used, line-used}
-use Rattle.sheet.proofs.Asked.{asked-no-line, asked-no-mode, asked-told}
+use Rattle.sheet.proofs.Asked.{placed-within, asked-refused, asked-told}
 use Rattle.sheet.proofs.work.Work.ask.Goals as goal
 
-pub returns-then-line-self : goal.returns-then-line-self
-returns-then-line-self g c =
+pub returns-in_err-check : goal.returns-in_err-check
+returns-in_err-check g c =
     let w = c.args.self.now in
-    asked-no-line (g.C.Chart.meaning c.args.chart.now) (state_of w) c.args.line c.args.mode (rw (lines-used w) c.if-line-self.true)
+    let e = c.in_err-check.field-0.0 in
+    let answer : c.from_residual.result ≡ Err e = search rules in
+    answer ∙ asked-refused (g.C.Chart.meaning c.args.chart.now) (state_of w) c.args.line c.args.mode e (rw (lines-used w) c.in_err-check.ensures)
 
-pub returns-then-mode-modes : goal.returns-then-mode-modes
-returns-then-mode-modes g c =
+pub index-requires : goal.index-requires
+index-requires g c =
     let w = c.args.self.now in
-    asked-no-mode (g.C.Chart.meaning c.args.chart.now) (state_of w) c.args.line c.args.mode (rw (lines-used w) c.if-line-self.false) (omega arith)
+    let within = placed-within w.tally.lines (size (g.C.Chart.meaning c.args.chart.now)) c.args.line c.args.mode _ c.in_ok-check.ensures in
+    let few = w.few in
+    let rooms = w.rooms in
+    omega (arith, within.0)
 
 pub returns : goal.returns
 returns g c =
     let w = c.args.self.now in
-    let l = line-used w c.args.line c.index.result.now c.if-line-self.false c.index.ensures in
-    asked-told (g.C.Chart.meaning c.args.chart.now) (state_of w) c.args.line c.args.mode (held_line c.index.result.now) c.told.result
-    (rw (lines-used w) c.if-line-self.false) (omega arith) l c.told.ensures
+    let μ = g.C.Chart.meaning c.args.chart.now in
+    let within = placed-within w.tally.lines (size μ) c.args.line c.args.mode _ c.in_ok-check.ensures in
+    let l = line-used w c.args.line c.index.result.now within.0 c.index.ensures in
+    asked-told μ (state_of w) c.args.line c.args.mode (held_line c.index.result.now) c.told.result (rw (lines-used w) within.0) within.1 l c.told.ensures

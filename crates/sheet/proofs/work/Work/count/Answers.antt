@@ -9,9 +9,9 @@ use Rattle.sheet.proofs.work.Work.count.Goals as goal
 pub returns : goal.returns
 returns c =
     let w = c.args.self.now in
-    let lent = take (w.tally.lines - 0) c.deref.result.now in
+    let lent = take w.tally.lines c.deref.result.now in
     let u = lent-used w c.deref.result.now c.deref.ensures.value in
-    let rounds = c.rounds_of.ensures.value ∙ ap (λ (ls : List Line). rounds_of (progress_of ls 0)) u in
+    let rounds = c.rounds_of.ensures ∙ ap (λ (ls : List Line). rounds_of (progress_of ls 0)) u in
     let looping = c.looping_of-looping.ensures.value ∙ ap (λ (ls : List Line). looping_of (rules_of (progress_of ls 0))) u in
     let plain = plain-left lent c.looping_of-looping.result c.looping_of-looping.ensures.value ∙ ap (λ (ls : List Line). plain_of (rules_of (progress_of ls 0))) u in
     cc

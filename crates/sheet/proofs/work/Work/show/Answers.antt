@@ -1,39 +1,37 @@
-use Rattle.std.proofs.Common.{List, length, Result, sym, refl, ap, ◌∙◌, arith}
-use Rattle.std.proofs.lemmas.Bool.{leb-true, leb-false}
+use Rattle.std.proofs.Common.{◌≡◌, List, length, Err, Result, sym, refl, ap, ◌∙◌, rules}
 use Rattle.basis.specs.Lines.{overlaid}
 use Rattle.basis.specs.declared.refusal.Refusal.{Refusal}
-use Rattle.basis.specs.declared.refusal.Refusal.TheVariants.{NoSuchLine, NoSuchMode, NotSettled}
+use Rattle.basis.specs.declared.refusal.Refusal.TheVariants.{NotSettled}
+use Rattle.ctl.specs.Chart.{size}
 use Rattle.ctl.specs.Paths.{Shown, shown}
 use Rattle.rounds.specs.Held.{progress_of}
 use Rattle.rounds.specs.declared.line.Line.{Line}
 use Rattle.witness.specs.Showing as witness
 use Rattle.sheet.specs.State.{showing, state_of, told, modes_of}
 use Rattle.sheet.proofs.Fronts.{lines-used, lent-used}
-use Rattle.sheet.proofs.Shown.{show-no-line, show-no-mode, show-not-settled, show-settled, refused-answer, refused-buffer, same-shown, borne-answer, borne-buffer}
+use Rattle.sheet.proofs.Asked.{placed-within}
+use Rattle.sheet.proofs.Shown.{show-refused, show-not-settled, show-settled, refused-answer, refused-buffer, same-shown, borne-answer, borne-buffer}
 use Rattle.sheet.proofs.work.Work.show.Goals as goal
+
+pub returns-in_err-check : goal.returns-in_err-check
+returns-in_err-check g c =
+    let w = c.args.self.now in
+    let μ = g.C.Chart.meaning c.args.chart.now in
+    let buffer = c.args.path.now in
+    let e = c.in_err-check.field-0.0 in
+    let x = showing μ (state_of w) c.args.line c.args.mode (length buffer) in
+    let r = show-refused μ (state_of w) c.args.line c.args.mode (length buffer) e (rw (lines-used w) c.in_err-check.ensures) in
+    let answer : c.from_residual.result ≡ Err e = search rules in
+    record { answer = answer ∙ refused-answer x e r; buffer = refused-buffer x e buffer r; after = refl }
 
 pub returns-then-line-self : goal.returns-then-line-self
 returns-then-line-self g c =
     let w = c.args.self.now in
+    let μ = g.C.Chart.meaning c.args.chart.now in
     let buffer = c.args.path.now in
-    let x = showing (g.C.Chart.meaning c.args.chart.now) (state_of w) c.args.line c.args.mode (length buffer) in
-    let e = show-no-line (g.C.Chart.meaning c.args.chart.now) (state_of w) c.args.line c.args.mode (length buffer) (rw (lines-used w) c.if-line-self.true) in
-    record { answer = refused-answer x NoSuchLine e; buffer = refused-buffer x NoSuchLine buffer e; after = refl }
-
-pub returns-then-mode-modes : goal.returns-then-mode-modes
-returns-then-mode-modes g c =
-    let w = c.args.self.now in
-    let buffer = c.args.path.now in
-    let x = showing (g.C.Chart.meaning c.args.chart.now) (state_of w) c.args.line c.args.mode (length buffer) in
-    let e = show-no-mode (g.C.Chart.meaning c.args.chart.now) (state_of w) c.args.line c.args.mode (length buffer) (rw (lines-used w) c.if-line-self.false) (omega arith) in
-    record { answer = refused-answer x NoSuchMode e; buffer = refused-buffer x NoSuchMode buffer e; after = refl }
-
-pub returns-then-is_waiting : goal.returns-then-is_waiting
-returns-then-is_waiting g c =
-    let w = c.args.self.now in
-    let buffer = c.args.path.now in
-    let x = showing (g.C.Chart.meaning c.args.chart.now) (state_of w) c.args.line c.args.mode (length buffer) in
-    let e = show-not-settled (g.C.Chart.meaning c.args.chart.now) (state_of w) c.args.line c.args.mode (length buffer) (rw (lines-used w) c.if-line-self.false) (omega arith) (leb-true w.tally.settled c.args.line (sym c.is_waiting.ensures ∙ c.if-is_waiting.true)) in
+    let within = placed-within w.tally.lines (size μ) c.args.line c.args.mode _ c.in_ok-check.ensures in
+    let x = showing μ (state_of w) c.args.line c.args.mode (length buffer) in
+    let e = show-not-settled μ (state_of w) c.args.line c.args.mode (length buffer) (rw (lines-used w) within.0) within.1 c.if-line-self.true in
     record { answer = refused-answer x NotSettled e; buffer = refused-buffer x NotSettled buffer e; after = refl }
 
 pub returns : goal.returns
@@ -45,7 +43,8 @@ returns g c =
     let m = c.args.mode in
     let buffer = c.args.path.now in
     let lent = lent-used w c.deref.result.now c.deref.ensures.value in
-    let e = show-settled μ (state_of w) i m (length buffer) (rw (lines-used w) c.if-line-self.false) (omega arith) (leb-false w.tally.settled c.args.line (sym c.is_waiting.ensures ∙ c.if-is_waiting.false)) in
+    let within = placed-within w.tally.lines (size μ) i m _ c.in_ok-check.ensures in
+    let e = show-settled μ (state_of w) i m (length buffer) (rw (lines-used w) within.0) within.1 c.if-line-self.false in
     record {
       answer =
           c.show.ensures.answer
