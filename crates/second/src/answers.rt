@@ -84,6 +84,7 @@ impl<C: Chart> Comparison<'_, C> {
         book: &Book<&C>,
         subject: Subject<'_>,
     ) -> Result<(), AllocError> {
+        // a `while` would need how many rounds are left, which no call answers; no sheet has as many as these
         for _ in 0..u16::MAX {
             if sheet.advance(1) == 0 {
                 break;

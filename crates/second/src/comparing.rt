@@ -56,7 +56,9 @@ impl<'a, C: Chart> Comparison<'a, C> {
             match sheet.enter(self.names.as_bytes(), text.as_bytes()) {
                 Ok(line) => {
                     self.log.texts = self.log.texts.saturating_add(1);
-                    entries.push(Entry { text, line }).map_err(AllocError::from)?;
+                    entries
+                        .push(Entry { text, line })
+                        .map_err(AllocError::from)?;
                 }
                 Err(Refusal::SheetFull) => {
                     self.log.skipped = self.log.skipped.saturating_add(1);
@@ -81,14 +83,15 @@ impl<'a, C: Chart> Comparison<'a, C> {
 
     // The book's answers and paths for one text.
     fn compare_entry(&mut self, book: &mut Book<&C>, subject: Subject<'_>) -> Result<(), Stop> {
-        let mut parts = Parts::new(self.graph.heap)?;
+        let graph = self.graph;
+        let mut parts = Parts::new(graph.heap)?;
         read(
             self.names.as_bytes(),
-            self.graph.chart.marks(),
+            graph.chart.marks(),
             subject.text.as_bytes(),
             &mut parts,
         )?;
-        let Some(decision) = self.graph.decide(parts.as_slice())? else {
+        let Some(decision) = graph.decide(parts.as_slice())? else {
             self.log.differ(subject, 0, Difference::Parts)?;
             return Ok(());
         };

@@ -76,7 +76,7 @@ impl Plan {
     }
 
     // A bit for each mark of the chart.
-    fn draw_marks(&self, random: &mut Random) -> u16 {
+    fn draw_marks(self, random: &mut Random) -> u16 {
         let bits = match self.density {
             Density::Seldom => random.bits() & random.bits() & random.bits(),
             Density::Evenly => random.bits(),
@@ -86,7 +86,7 @@ impl Plan {
         bits & (ones & 0xFFFF) as u16
     }
 
-    fn draw_way(&self, random: &mut Random, mode: u16) -> u16 {
+    fn draw_way(self, random: &mut Random, mode: u16) -> u16 {
         match self.lead {
             Lead::Anywhere => random.below(self.modes),
             Lead::Near => mode
@@ -130,9 +130,10 @@ impl Draft {
 
     // The ways in order, and then FFFF in the places that are left.
     fn put_ways(&mut self, random: &mut Random, mode: u16, degree: u16) -> Result<(), AllocError> {
-        for place in 0..u16::from(self.plan.width) {
+        let plan = self.plan;
+        for place in 0..u16::from(plan.width) {
             self.put(if place < degree {
-                self.plan.draw_way(random, mode)
+                plan.draw_way(random, mode)
             } else {
                 0xFFFF
             })?;
@@ -141,8 +142,9 @@ impl Draft {
     }
 
     fn put_record(&mut self, random: &mut Random, mode: u16) -> Result<(), AllocError> {
-        let degree = random.within(1, u16::from(self.plan.width).saturating_add(1));
-        self.put(self.plan.draw_marks(random))?;
+        let plan = self.plan;
+        let degree = random.within(1, u16::from(plan.width).saturating_add(1));
+        self.put(plan.draw_marks(random))?;
         self.file.extend_from_slice(&[(degree & 0xFF) as u8, 0])?;
         self.put_ways(random, mode, degree)
     }

@@ -41,10 +41,7 @@ fn run_all(heap: Global, options: Options) -> Result<Log, Stop> {
 fn print_answers(rt: &HostRuntime, log: &Log) -> io::Result<()> {
     println!(rt;
         "texts {} skipped {} answers {} yes {}",
-        log.texts,
-        log.skipped,
-        log.answers,
-        log.yes
+        log.texts, log.skipped, log.answers, log.yes
     )
 }
 
@@ -52,10 +49,7 @@ fn print_counts(rt: &HostRuntime, log: &Log) -> io::Result<()> {
     println!(rt; "told after rounds {} early {}", log.told, log.early)?;
     println!(rt;
         "paths {} returning {} longest {} refused {}",
-        log.paths,
-        log.returns,
-        log.longest,
-        log.refused
+        log.paths, log.returns, log.longest, log.refused
     )
 }
 

@@ -1,5 +1,5 @@
 // A set of modes: for each mode of a chart whether it is in the set.
-ghost use Rattle.std.specs.Prelude.{◌≡◌, ◌+◌, ◌≤◌, true, false, set, IfOk, vec_len, slice_index_or, slice_set};
+ghost use Rattle.std.specs.Prelude.{◌≡◌, ◌+◌, true, false, set, IfOk, vec_len, slice_index_or, slice_set};
 ghost use Rattle.second.specs.Absent.{absent};
 
 use std::alloc::{AllocError, Global};
@@ -41,6 +41,7 @@ impl Modes {
     pub(crate) fn insert(&mut self, mode: u16) -> bool
         ensures held { self.new.held.items ≡ slice_set self.old.held.items mode true }
         ensures fewer { result ≡ true → absent self.new.held.items + 1 ≡ absent self.old.held.items }
+        ensures none { result ≡ false → absent self.new.held.items ≡ absent self.old.held.items }
     {
         match self.held.get_mut(mode as usize) {
             Some(held) => !mem::replace(held, true),

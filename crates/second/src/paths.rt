@@ -150,12 +150,7 @@ impl<C: Chart> Graph<'_, C> {
     }
 
     // Shows the path in a buffer that is one too short.
-    fn check_short(
-        &self,
-        book: &mut Book<&C>,
-        case: Case<'_>,
-        needed: usize,
-    ) -> Result<(), Fault> {
+    fn check_short(&self, book: &mut Book<&C>, case: Case<'_>, needed: usize) -> Result<(), Fault> {
         let mut buffer = vec![in self.heap; BLANK; needed.saturating_sub(1)]?;
         if book.show(case.line, case.mode, &mut buffer) != Err(Refusal::ShortPath(needed)) {
             return Err(Fault::ShortTaken);
@@ -167,12 +162,7 @@ impl<C: Chart> Graph<'_, C> {
     }
 
     // Shows the path at a mode, where one is due.
-    fn check_show(
-        &self,
-        book: &mut Book<&C>,
-        case: Case<'_>,
-        log: &mut Log,
-    ) -> Result<(), Fault> {
+    fn check_show(&self, book: &mut Book<&C>, case: Case<'_>, log: &mut Log) -> Result<(), Fault> {
         let room = (self.chart.modes() as usize).saturating_add(3);
         let mut buffer = vec![in self.heap; BLANK; room]?;
         match (book.show(case.line, case.mode, &mut buffer), case.due) {
@@ -202,7 +192,8 @@ impl<C: Chart> Comparison<'_, C> {
         subject: Subject<'_>,
         decision: &Decision,
     ) -> Result<(), Stop> {
-        for mode in 0..self.graph.chart.modes() {
+        let graph = self.graph;
+        for mode in 0..graph.chart.modes() {
             let due = decision.due(mode);
             let case = Case {
                 line: subject.line,
@@ -210,7 +201,7 @@ impl<C: Chart> Comparison<'_, C> {
                 holds: decision.holds_under(mode),
                 due,
             };
-            match self.graph.check_show(book, case, self.log) {
+            match graph.check_show(book, case, self.log) {
                 Ok(()) => {}
                 Err(Fault::Memory) => return Err(Stop::Memory),
                 Err(fault) => self

@@ -1,4 +1,6 @@
 // Random texts of properties, over the names a, b, c and on.
+ghost use Rattle.std.specs.Prelude.{◌<◌};
+
 use crate::random::Random;
 use std::alloc::{AllocError, Global};
 
@@ -48,12 +50,11 @@ struct Draft {
 impl Draft {
     // A name or a constant.
     fn leaf(&mut self, random: &mut Random) -> Result<(), AllocError> {
-        self.text
-            .push(if self.marks == 0 || random.once_in(10) {
-                if random.once_in(2) { '1' } else { '0' }
-            } else {
-                name(random.below(self.marks))
-            })
+        self.text.push(if self.marks == 0 || random.once_in(10) {
+            if random.once_in(2) { '1' } else { '0' }
+        } else {
+            name(random.below(self.marks))
+        })
     }
 
     // The opening of a square bracket, and its middle.
@@ -63,18 +64,21 @@ impl Draft {
         Ok(if random.once_in(2) { 'U' } else { 'R' })
     }
 
-    // Two operands of so many parts together, with what stands between and after them.
+    // Two operands with so many parts but one, and what stands between and after them.
+    #[cycle(property)]
     fn operands(
         &mut self,
         random: &mut Random,
         parts: u16,
         middle: char,
         closing: char,
-    ) -> Result<(), AllocError> {
-        let left = random.within(1, parts.saturating_sub(1));
+    ) -> Result<(), AllocError>
+        requires { 2 < parts }
+    {
+        let left = random.within(1, parts - 1);
         self.property(random, left)?;
         self.text.push(middle)?;
-        self.property(random, parts.saturating_sub(left).saturating_sub(1))?;
+        self.property(random, parts - left - 1)?;
         self.text.push(closing)
     }
 
@@ -90,6 +94,7 @@ impl Draft {
     }
 
     // A property of so many parts.
+    #[cycle(property)]
     fn property(&mut self, random: &mut Random, parts: u16) -> Result<(), AllocError> {
         if parts < 2 {
             return self.leaf(random);
