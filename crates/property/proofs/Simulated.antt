@@ -1,10 +1,9 @@
 -- The code's way of fitting tokens, with tags and parts, gives the parts of the tree that the machine builds.
-use Rattle.std.proofs.Common.{◌≡◌, ℕ, ◌+◌, Bool, true, false, cond, ◌&&◌, List, [], ◌∷◌, ◌++◌, length, is_some, Some, None, Ok, Err, Option, Result, unwrap_or, sym, refl, ap, ◌∙◌, inl, inr, append_assoc, arith}
-use Rattle.std.proofs.lemmas.List.{append-nil, length_push}
+use Rattle.std.proofs.Common.{◌≡◌, ℕ, Bool, true, false, cond, ◌&&◌, List, [], ◌∷◌, ◌++◌, is_some, Some, None, Ok, Err, Option, Result, unwrap_or, sym, refl, ap, ◌∙◌, inl, inr, append_assoc}
+use Rattle.std.proofs.lemmas.List.{append-nil}
 use Rattle.std.proofs.lemmas.Bool.{both_ways, cases_Bool, cond-true, cond-false}
 use Rattle.basis.specs.declared.refusal.Refusal.{Refusal}
 use Rattle.basis.specs.declared.refusal.Refusal.TheVariants.{Grammar, UnknownName}
-use Rattle.property.specs.declared.shape.UnaryOperator.{UnaryOperator}
 use Rattle.property.specs.declared.shape.Tag.{Tag}
 use Rattle.property.specs.declared.shape.Tag.TheVariants.{Unary, Left, Right}
 use Rattle.property.specs.declared.shape.Part.{Part}
@@ -19,7 +18,7 @@ use Rattle.property.specs.Lists.{place_of}
 use Rattle.property.specs.Writing.{known}
 use Rattle.property.specs.Machine.{Frame, over, left, right, State, want, have, stuck, settle, step, is_stuck}
 use Rattle.property.specs.Reading.{finish, read_on, mark_of}
-use Rattle.property.specs.Flat.{leading_unary, older_tags, rest_tags, unaries, Fitted, named, fitted, is_none, onward, fit_all}
+use Rattle.property.specs.Flat.{rest_tags, unaries, Fitted, named, fitted, is_none, onward, fit_all}
 
 -- what the machine's frames are as tags, and the parts written for them
 abbrev tag_of : Frame → Tag

@@ -69,7 +69,8 @@ impl Tag {
     }
 }
 
-// A text that is fitted token by token: what waits, and whether an operand stands complete.
+// A text that is fitted token by token: what waits, and whether an operand stands complete. The names and the parts stay
+// with the caller, who lends them to each call.
 #[derive(Drop)]
 pub(crate) struct Fitting<'a> {
     waiting: Stack<'a, Waiting>,

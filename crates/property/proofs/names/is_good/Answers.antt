@@ -1,7 +1,7 @@
-use Rattle.std.proofs.Common.{◌≡◌, ◌&&◌, eqb, length, ap, sym, ◌∙◌, rules, tests}
+use Rattle.std.proofs.Common.{◌&&◌, eqb, length, ap, sym, ◌∙◌, rules, tests}
 use Rattle.std.proofs.lemmas.Iterator.Consumers.{YieldsList-from_first, YieldsList-from_enumerate, count_from_yields_List}
 use Rattle.std.proofs.lemmas.Iterator.Search.{all_from_yields_List}
-use Rattle.property.specs.Lists.{listed, remaining, sound}
+use Rattle.property.specs.Lists.{listed, remaining}
 use Rattle.property.proofs.Sought.{is_sound, all-sound, own-place}
 use Rattle.property.proofs.names.is_good.Goals as goal
 
