@@ -23,7 +23,9 @@ impl Bench {
         let scratch = Scratch::new(heap)?;
         let mut lines = Vec::new(heap);
         for _ in 0..64 {
-            lines.push(Line::new(heap)?)?;
+            if lines.push(Line::new(heap)?).is_err() {
+                return Err(Refusal::Memory);
+            }
         }
         let tally = Tally {
             lines: 0,
