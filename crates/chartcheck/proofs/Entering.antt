@@ -1,12 +1,20 @@
--- One text more is entered, or there is none.
-use Rattle.std.proofs.Common.{◌≡◌, ℕ, ◌+◌, ◌<◌, List, [], ◌∷◌, ◌++◌, map, length, get_or, take, refl, ap, ◌∙◌, arith}
-use Rattle.std.proofs.lemmas.List.{map-append, take_more}
+-- What the calls stand for: each text is entered under the names, and then the sheet is finished.
+use Rattle.std.proofs.Common.{◌≡◌, ℕ, List, [], ◌∷◌, ◌++◌, map, length, refl, ap, ◌∙◌, arith, Bor, IfOk, Ok, Err, Result, Vec, vec_items}
+use Rattle.desk.specs.declared.calls.Call.{Call}
+use Rattle.desk.specs.declared.calls.Call.TheVariants.{Enter, Finish}
 use Rattle.desk.specs.Calls.{enter}
+use Rattle.desk.specs.Told.{call_of}
+use Rattle.chartcheck.specs.Output.{enter_all}
 
-pub one_more : {X : Type 0} (f : X → List ℕ) (names : List ℕ) (xs : List X) (i : ℕ) (d : X) → i < length xs → map (enter names) (map f (take (i + 1) xs)) ≡ map (enter names) (map f (take i xs)) ++ enter names (f (get_or xs i d)) ∷ []
-one_more f names xs i d h =
-    ap (λ t. map (enter names) (map f t)) (take_more xs i d h)
-    ∙ (ap (map (enter names)) (map-append f (take i xs) (get_or xs i d ∷ [])) ∙ map-append (enter names) (map f (take i xs)) (f (get_or xs i d) ∷ []))
+entered : (names : Bor (List ℕ)) (texts : List (Bor (List ℕ))) → map call_of (map (λ t. Enter names t) texts ++ Finish ∷ []) ≡ enter_all names.now (map (λ x. x.now) texts)
+entered names [] = refl
+entered names (t ∷ ts) = ap (λ cs. enter names.now t.now ∷ cs) (entered names ts)
+
+pub all-entered : {Z E : Type 0} (names : Bor (List ℕ)) (texts : List (Bor (List ℕ))) (r : Result (Vec Call Z) E)
+    → IfOk r (λ w. vec_items w ≡ map (λ t. Enter names t) texts ++ Finish ∷ [])
+    → IfOk r (λ w. map call_of (vec_items w) ≡ enter_all names.now (map (λ x. x.now) texts))
+all-entered names texts (Ok w) h = ap (map call_of) h ∙ entered names texts
+all-entered names texts (Err e) h = h
 
 pub empty : {X : Type 0} (xs : List X) → length xs ≡ 0 → xs ≡ []
 empty [] h = refl

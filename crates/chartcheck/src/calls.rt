@@ -7,6 +7,7 @@ ghost use Rattle.std.specs.Prelude.{◌≡◌, map, IfOk};
 use desk::Call;
 use intake::lines_of;
 use std::alloc::{AllocError, Global};
+use std::iter;
 
 // Every text is entered under the names, and then the sheet is finished.
 fn enter_all<'a>(
@@ -16,12 +17,11 @@ fn enter_all<'a>(
 ) -> Result<Vec<Call<'a>>, AllocError>
     ensures { IfOk result (λ v. map call_of v.items ≡ enter_all names.now (map (λ x. x.now) texts.now)) }
 {
-    let mut calls = Vec::new(heap);
-    for text in texts {
-        calls.push(Call::Enter(names, *text))?;
-    }
-    calls.push(Call::Finish)?;
-    Ok(calls)
+    texts
+        .iter()
+        .map(|text| Call::Enter(names, text))
+        .chain(iter::once(Call::Finish))
+        .collect(heap)
 }
 
 // The first line has the names, each other one a text.
@@ -30,7 +30,7 @@ pub(crate) fn calls_for<'a>(heap: Global, input: &'a [u8]) -> Result<Vec<Call<'a
 {
     let lines = lines_of(heap, input)?;
     match lines.split_first() {
-        Some((names, texts)) => enter_all(heap, *names, texts),
+        Some((names, texts)) => enter_all(heap, names, texts),
         None => enter_all(heap, input, &[]),
     }
 }

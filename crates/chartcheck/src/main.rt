@@ -25,10 +25,10 @@ fn main(rt: HostRuntime) -> io::Result<()> {
     let mut input = [0; INPUT_BYTES];
     let mut out = [0; OUT_BYTES];
     prove!(out.len() >= 3400);
-    let filed = read_chart_file(&rt, &mut file)?;
-    let typed = fill(&mut rt.stdin(), &mut input)?;
-    match tell(rt.alloc(), &file[0..filed], &input[0..typed], &mut out) {
-        Ok(end) => rt.stdout().write_all(&out[0..end]),
+    let file = read_chart_file(&rt, &mut file)?;
+    let input = fill(&mut rt.stdin(), &mut input)?;
+    match tell(rt.alloc(), file, input, &mut out) {
+        Ok(end) => rt.stdout().write_all(&out[..end]),
         Err(_) => Ok(()),
     }
 }

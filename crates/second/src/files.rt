@@ -166,7 +166,5 @@ fn file_of(heap: Global, random: &mut Random, plan: Plan) -> Result<Vec<u8>, All
 // The chart of a random file that follows a plan.
 pub(crate) fn filed(heap: Global, random: &mut Random, plan: Plan) -> Result<FiledChart, Stop> {
     let file = file_of(heap, random, plan)?;
-    let mut chart = FiledChart::new(heap)?;
-    chart.open(&file)?;
-    Ok(chart)
+    Ok(FiledChart::from_file(heap, &file)?)
 }

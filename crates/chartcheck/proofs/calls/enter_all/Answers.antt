@@ -1,28 +1,20 @@
-use Rattle.std.proofs.Common.{ℕ, List, [], ◌∷◌, ◌++◌, map, get_or, vec_items, sym, refl, ap, ◌∙◌, Bor}
-use Rattle.std.proofs.lemmas.List.{map-append, take_all}
-use Rattle.std.proofs.lemmas.Slice.{pushed}
-use Rattle.desk.specs.Calls.{Call, enter, finish}
-use Rattle.desk.specs.Told.{call_of}
-use Rattle.chartcheck.proofs.Entering.{one_more}
+use Rattle.std.proofs.Common.{rules, tests, Some}
+use Rattle.std.proofs.lemmas.Iterator.{YieldsList-from_slice, YieldsList-from_map, items_from_collect}
+use Rattle.std.proofs.lemmas.Iterator.Adapters.{YieldsList-from_once}
+use Rattle.std.proofs.lemmas.Iterator.Consumers.{YieldsList-at, YieldsList-from_chain}
+use Rattle.desk.specs.declared.calls.Call.TheVariants.{Enter, Finish}
+use Rattle.chartcheck.proofs.Entering.{all-entered}
 use Rattle.chartcheck.proofs.calls.enter_all.Goals as goal
-
-pub loop-text-preserved : goal.loop-text-preserved
-loop-text-preserved c =
-    let l = c.loop-text in
-    let names = c.args.names.now in
-    let texts = c.args.texts.now in
-    let none : Bor (List ℕ) = record { ref_ptr = (0, 0); now = [] } in
-    let grown = pushed (_ ∷ []) refl c.in_ok-push.was c.push.ensures.items in
-    ap (map call_of) grown
-    ∙ (map-append call_of (vec_items l.calls) (_ ∷ [])
-    ∙ (ap (λ (ys : List Call). ys ++ enter names (get_or texts l.text-index none).now ∷ []) l.invariant
-    ∙ sym (one_more (λ x. x.now) names texts l.text-index none c.loop-text-test.true)))
 
 pub returns : goal.returns
 returns c =
-    let l = c.loop-text in
-    let names = c.args.names.now in
-    let grown = pushed (_ ∷ []) refl c.in_ok-push-2.was c.push-2.ensures.items in
-    ap (map call_of) grown
-    ∙ (map-append call_of (vec_items l.calls) (_ ∷ [])
-    ∙ ap (λ (ys : List Call). ys ++ finish ∷ []) (l.invariant ∙ ap (λ t. map (enter names) (map (λ x. x.now) t)) (take_all l.text-index c.args.texts.now c.loop-text-test.false)))
+    let names = c.args.names in
+    let texts = c.args.texts.now in
+    all-entered names texts c.collect.result
+    (items_from_collect c.collect.result c.collect.ensures.ran
+    (YieldsList-from_chain
+    (YieldsList-at c.chain.ensures.first
+    (YieldsList-from_map _ (λ t. Enter names t) (YieldsList-at c.map.ensures.source (YieldsList-from_slice texts cc)) c.map.ensures.closure (λ x r q k. search (rules, tests))))
+    (YieldsList-at c.chain.ensures.second (YieldsList-from_once (Some Finish) c.once.ensures.item))
+    c.chain.ensures.first_done
+    c.chain.ensures.second_done))
