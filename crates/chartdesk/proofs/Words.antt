@@ -1,46 +1,34 @@
 -- The first word of a text, and the number that figures spell, from a place on.
-use Rattle.std.proofs.Common.{◌≡◌, ℕ, ◌+◌, ◌-◌, ◌*◌, ◌^◌, ◌<◌, ◌≤◌, Bool, true, false, cond, ◌&&◌, ltb, List, [], ◌∷◌, length, get_or, take, drop, Some, None, Decides, Option, sym, refl, ap, ◌∙◌, inl, inr, arith, rules}
-use native.Mathlib.Nat.{sub-zero}
+use Rattle.std.proofs.Common.{◌≡◌, ℕ, ◌+◌, ◌-◌, ◌*◌, ◌^◌, ◌<◌, ◌≤◌, Bool, true, false, cond, ◌&&◌, ◌==◌, ltb, List, [], ◌∷◌, length, get_or, take, drop, Some, None, Decides, Option, sym, refl, ap, ◌∙◌, inl, inr, arith, rules}
+use Rattle.std.proofs.lemmas.Grind.{common_steps}
+use Rattle.std.specs.List.{position, position_or_len}
+use Rattle.std.proofs.lemmas.List.Quantifiers.{position-Some}
 use Rattle.std.proofs.lemmas.Slice.Eq.{bytes_eq-Decides}
-use Rattle.std.proofs.lemmas.List.{drop_more, drop_all, take_all, take_rest}
-use Rattle.std.proofs.lemmas.Bool.{cases_lt, cond-true, cond-false, eq-eqb, ne_eqb, lt-ltb, le-ltb}
+use Rattle.std.proofs.lemmas.List.{drop_more, drop_all, take_rest}
+use Rattle.std.proofs.lemmas.Bool.{cases_lt, cond-true, cond-false, lt-ltb, le-ltb}
 use Rattle.std.specs.Char.{is_ascii_digit}
 use Rattle.std.specs.Str.{all_ascii_digits as all_digits, bytes_eq}
-use Rattle.chartdesk.specs.Commands.{figured, figures_from, number_of, onward, rest_of, text_of, value_from, word_end, word_of}
+use Rattle.chartdesk.specs.Commands.{figured, figures_from, number_of, onward, rest_of, value_from, word_end, word_of}
 
-pub empty-text : (xs : List ℕ) → length xs < 1 → xs ≡ text_of xs
-empty-text [] h = refl
-empty-text (x ∷ xs) h = absurd (omega arith)
+ends : (xs : List ℕ) → position_or_len (λ b. b == 32) xs ≡ word_end xs
+ends [] = refl
+ends (x ∷ xs) = grind (arith, common_steps, ends xs)
 
-pub space-here : (xs : List ℕ) (i : ℕ) → i < length xs → get_or xs i 0 ≡ 32 → word_end (drop i xs) ≡ 0
-space-here xs i h e =
-    ap word_end (drop_more xs i 0 h) ∙ ap (λ t. cond t 0 (word_end (drop (i + 1) xs) + 1)) (eq-eqb (get_or xs i 0) 32 e)
+-- a text cut at the first space, or with no space
+pub word-cut : (xs : List ℕ) (e : ℕ) → position (λ b. b == 32) xs ≡ Some e → take e xs ≡ word_of xs
+word-cut xs e found = grind (arith, common_steps, ends xs, found)
 
-pub no-space-here : (xs : List ℕ) (i : ℕ) → i < length xs → (get_or xs i 0 ≡ 32 → ⊥) → word_end (drop i xs) ≡ word_end (drop (i + 1) xs) + 1
-no-space-here xs i h e =
-    ap word_end (drop_more xs i 0 h) ∙ ap (λ t. cond t 0 (word_end (drop (i + 1) xs) + 1)) (ne_eqb (get_or xs i 0) 32 e)
+pub rest-cut : (xs : List ℕ) (e : ℕ) → position (λ b. b == 32) xs ≡ Some e → Some (take (length xs - (e + 1)) (drop (e + 1) xs)) ≡ rest_of xs
+rest-cut xs e found =
+    let inside : e < length xs = (position-Some (λ b. b == 32) xs e 0 found).0 in
+    let is : e ≡ word_end xs = grind (arith, common_steps, ends xs, found) in
+    ap Some (take_rest xs (e + 1)) ∙ (sym (cond-true (ltb e (length xs)) (Some (drop (e + 1) xs)) None (lt-ltb e (length xs) inside)) ∙ ap (λ n. cond (ltb n (length xs)) (Some (drop (n + 1) xs)) None) is)
 
-pub no_more : (xs : List ℕ) (i : ℕ) → length xs ≤ i → word_end (drop i xs) ≡ 0
-no_more xs i h = ap word_end (drop_all i xs h)
+pub word-whole : (xs : List ℕ) → position (λ b. b == 32) xs ≡ None → xs ≡ word_of xs
+word-whole xs none = grind (arith, common_steps, ends xs, none)
 
--- a text cut at the end of its first word
-module _ (xs : List ℕ) (e : ℕ) (is : e ≡ word_end xs) where
-  pub word_cut : take (e - 0) xs ≡ word_of xs
-  word_cut = ap (λ n. take (n - 0) xs) is ∙ ap (λ n. take n xs) (sub-zero (word_end xs))
-
-  pub rest-cut : e < length xs → Some (take (length xs - (e + 1)) (drop (e + 1) xs)) ≡ rest_of xs
-  rest-cut h =
-      ap Some (take_rest xs (e + 1))
-      ∙ (sym (cond-true (ltb e (length xs)) (Some (drop (e + 1) xs)) None (lt-ltb e (length xs) h))
-      ∙ ap (λ n. cond (ltb n (length xs)) (Some (drop (n + 1) xs)) None) is)
-
-  pub word-whole : length xs ≤ e → xs ≡ word_of xs
-  word-whole h = sym (take_all e xs h) ∙ ap (λ n. take n xs) is
-
-  pub rest-none : length xs ≤ e → None ≡ rest_of xs
-  rest-none h =
-      sym (cond-false (ltb e (length xs)) (Some (drop (e + 1) xs)) None (le-ltb e (length xs) h))
-      ∙ ap (λ n. cond (ltb n (length xs)) (Some (drop (n + 1) xs)) None) is
+pub rest-none : (xs : List ℕ) → position (λ b. b == 32) xs ≡ None → None ≡ rest_of xs
+rest-none xs none = grind (arith, common_steps, ends xs, none)
 
 -- a number only grows with more figures, so one past 65,535 stays past it
 grown : (n : ℕ) (bs : List ℕ) → n ≤ value_from n bs

@@ -1,3 +1,4 @@
 pub mod Wording
 pub mod Commands
 pub mod Turns
+pub mod Layouts

@@ -1,7 +1,7 @@
 // What a line of standard input asks for. `specs/Commands.antt` defines it.
-ghost use Rattle.chartdesk.specs.Commands.{advance_of, ask_of, bare_of, command_of, figured, number_of, place_of, rest_of, said_in, show_of, text_in, with_rest, word_end, word_of};
-ghost use Rattle.std.specs.Str.{bytes_eq};
-ghost use Rattle.std.specs.Prelude.{◌≡◌};
+ghost use Rattle.chartdesk.specs.Commands.{advance_of, ask_of, bare_of, command_of, figured, number_of, place_of, rest_of, said_in, show_of, text_in, with_rest, word_of};
+ghost use Rattle.std.specs.List.{position};
+ghost use Rattle.std.specs.Prelude.{◌≡◌, ◌==◌};
 
 use desk::Call;
 
@@ -15,16 +15,11 @@ pub(crate) enum Command<'a> {
     Report,
 }
 
-// The place of the first space, or the length where there is none.
-fn word_end(text: &[u8]) -> usize
-    ensures { result ≡ word_end text.now }
+// The place of the first space.
+fn space(text: &[u8]) -> Option<usize>
+    ensures { result ≡ position (λ byte. byte == 32) text.now }
 {
-    for (i, byte) in text.iter().enumerate() {
-        if *byte == b' ' {
-            return i;
-        }
-    }
-    text.len()
+    text.iter().position(|byte| *byte == b' ')
 }
 
 // What stands before the first space, and what follows it.
@@ -32,11 +27,9 @@ fn cut<'a>(text: &'a [u8]) -> (&'a [u8], Option<&'a [u8]>)
     ensures word { result.0.now ≡ word_of text.now }
     ensures rest { text_in result.1 ≡ rest_of text.now }
 {
-    let end = word_end(text);
-    if end < text.len() {
-        (&text[0..end], Some(&text[end + 1..]))
-    } else {
-        (text, None)
+    match space(text) {
+        Some(end) => (&text[..end], Some(&text[end + 1..])),
+        None => (text, None),
     }
 }
 
@@ -50,7 +43,7 @@ fn with_figure(value: u16, byte: u8) -> Option<u16>
     value.checked_mul(10)?.checked_add(u16::from(byte - b'0'))
 }
 
-// A number in decimal figures.
+// A number in decimal figures; `parse` would take a sign too.
 fn number(text: &[u8]) -> Option<u16>
     ensures { result ≡ number_of text.now }
 {
@@ -83,25 +76,19 @@ fn place_in(text: &[u8]) -> Option<Place>
     Some(Place { line, mode })
 }
 
-fn same(word: &[u8], other: &[u8]) -> bool
-    ensures { result ≡ bytes_eq word.now other.now }
-{
-    word == other
-}
-
 // A command of one word.
 fn bare<'a>(word: &[u8]) -> Option<Command<'a>>
     ensures { said_in result ≡ bare_of word.now }
 {
-    if same(word, b"count") {
+    if word == b"count".as_slice() {
         Some(Command::Carry(Call::Count))
-    } else if same(word, b"clear") {
+    } else if word == b"clear".as_slice() {
         Some(Command::Carry(Call::Clear))
-    } else if same(word, b"finish") {
+    } else if word == b"finish".as_slice() {
         Some(Command::Carry(Call::Finish))
-    } else if same(word, b"reopen") {
+    } else if word == b"reopen".as_slice() {
         Some(Command::Carry(Call::Reopen))
-    } else if same(word, b"report") {
+    } else if word == b"report".as_slice() {
         Some(Command::Report)
     } else {
         None
@@ -132,13 +119,13 @@ fn show<'a>(rest: &[u8]) -> Option<Command<'a>>
 fn with_rest<'a>(names: &'a [u8], word: &[u8], rest: &'a [u8]) -> Option<Command<'a>>
     ensures { said_in result ≡ with_rest names.now word.now rest.now }
 {
-    if same(word, b"enter") {
+    if word == b"enter".as_slice() {
         Some(Command::Carry(Call::Enter(names, rest)))
-    } else if same(word, b"advance") {
+    } else if word == b"advance".as_slice() {
         advance(rest)
-    } else if same(word, b"ask") {
+    } else if word == b"ask".as_slice() {
         ask(rest)
-    } else if same(word, b"show") {
+    } else if word == b"show".as_slice() {
         show(rest)
     } else {
         None

@@ -13,7 +13,6 @@ use chart::FiledChart;
 use desk::Desk;
 use intake::read_chart_file;
 use std::io;
-use std::io::Write;
 
 mod answer;
 mod command;
@@ -31,27 +30,15 @@ const FILE_BYTES: usize = 5133;
 fn open(heap: Global, file: &[u8]) -> Result<Desk<FiledChart>, Refusal>
     ensures { MatchResult result (λ d. (fault file.now ≡ None) × ((meaning_of (chart_of d) ≡ file_chart file.now) × (standing_of d ≡ clean_desk))) (λ e. (e ≡ Memory) ⊎ (fault file.now ≡ Some e)) }
 {
-    let mut chart = FiledChart::new(heap)?;
-    chart.open(file)?;
-    match Desk::new(heap, chart) {
-        Ok(desk) => Ok(desk),
-        Err(_chart) => Err(Refusal::Memory),
-    }
-}
-
-fn print_refusal(rt: &HostRuntime, refusal: Refusal) -> io::Result<()> {
-    let mut out = [0; 128];
-    match refusal.write_line(&mut out) {
-        Ok(end) => rt.stdout().write_all(&out[0..end]),
-        Err(_) => Ok(()),
-    }
+    let chart = FiledChart::from_file(heap, file)?;
+    Desk::new(heap, chart).map_err(|_| Refusal::Memory)
 }
 
 fn main(rt: HostRuntime) -> io::Result<()> {
     let mut file = [0; FILE_BYTES];
-    let filed = read_chart_file(&rt, &mut file)?;
-    match open(rt.alloc(), &file[0..filed]) {
+    let file = read_chart_file(&rt, &mut file)?;
+    match open(rt.alloc(), file) {
         Ok(desk) => serve(&rt, desk),
-        Err(refusal) => print_refusal(&rt, refusal),
+        Err(refusal) => println!(rt; "{refusal}"),
     }
 }

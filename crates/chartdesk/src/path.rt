@@ -17,9 +17,7 @@ fn push_both<'a>(
 ) -> Result<(), AllocError>
     ensures { OnOk result (flat_map spelling pieces.new.items ≡ flat_map spelling pieces.old.items ++ (word.now ++ decimal number)) }
 {
-    pieces.push(Piece::Text(word))?;
-    pieces.push(Piece::Number(number))?;
-    Ok(())
+    pieces.extend_from_slice(&[Piece::Text(word), Piece::Number(number)])
 }
 
 // Modes behind others.
@@ -48,10 +46,7 @@ fn push_return<'a>(pieces: &mut Vec<Piece<'a>>, returns: Option<usize>) -> Resul
     ensures { OnOk result (flat_map spelling pieces.new.items ≡ flat_map spelling pieces.old.items ++ return_text returns) }
 {
     match returns {
-        Some(place) => {
-            push_both(pieces, b" returns to ", place)?;
-            Ok(())
-        }
+        Some(place) => push_both(pieces, b" returns to ", place),
         None => Ok(()),
     }
 }

@@ -1,7 +1,8 @@
 // One line after another: each is carried out and answered before the next is read. `specs/Turns.antt` says what a line
 // does.
 ghost use Rattle.chart.specs.Filed.{chart_of as meaning_of};
-ghost use Rattle.chartdesk.specs.Commands.{call as said, command_of, report as report_said, said_by, text_of};
+ghost use Rattle.chartdesk.specs.Commands.{call as said, command_of, report as report_said, said_by};
+ghost use Rattle.chartdesk.specs.Layouts.{is_below};
 ghost use Rattle.chartdesk.specs.Turns.{Done, DoneOrMemory, LeadsOn, outcome_for};
 ghost use Rattle.desk.specs.Told.{call_of, chart_of, standing_of};
 ghost use Rattle.std.specs.Prelude.{◌≡◌, Some};
@@ -18,17 +19,24 @@ use std::io::{BufRead, Write};
 // More than the longest answer has, which is a report of 32 entries.
 const OUT_BYTES: usize = 4096;
 
-// The desk after a line, how many bytes of the answer were laid into the buffer, and whether these are whole lines.
+// Where an answer is printed: behind its line, or in lines of its own below it.
+#[derive(Clone, Copy)]
+enum Layout {
+    Behind,
+    Below,
+}
+
+// The desk after a line, how many bytes of the answer were laid into the buffer, and where these are printed.
 #[derive(Drop)]
 struct Turn {
     desk: Desk<FiledChart>,
     told: Option<usize>,
-    lines: bool,
+    layout: Layout,
 }
 
 // Carries out a call; where there is no memory for it the desk stays.
 fn carry(heap: Global, desk: Desk<FiledChart>, call: Call<'_>, out: &mut [u8]) -> Turn
-    ensures done { DoneOrMemory (outcome_for (meaning_of (chart_of desk)) (standing_of desk) (Some (said (call_of call.entry)))) (standing_of desk) out.old out.new (standing_of result.desk) result.told result.lines }
+    ensures done { DoneOrMemory (outcome_for (meaning_of (chart_of desk)) (standing_of desk) (Some (said (call_of call.entry)))) (standing_of desk) out.old out.new (standing_of result.desk) result.told (is_below result.layout) }
     ensures chart { chart_of result.desk ≡ chart_of desk }
 {
     match Task::new(heap, call) {
@@ -38,20 +46,20 @@ fn carry(heap: Global, desk: Desk<FiledChart>, call: Call<'_>, out: &mut [u8]) -
             Turn {
                 desk,
                 told,
-                lines: false,
+                layout: Layout::Behind,
             }
         }
         Err(_) => Turn {
             desk,
             told: put_refusal(Refusal::Memory, out),
-            lines: false,
+            layout: Layout::Behind,
         },
     }
 }
 
 // The report of a book; a sheet has none.
 fn report(desk: Desk<FiledChart>, out: &mut [u8]) -> Turn
-    ensures done { Done (outcome_for (meaning_of (chart_of desk)) (standing_of desk) (Some report_said)) out.old out.new (standing_of result.desk) result.told result.lines }
+    ensures done { Done (outcome_for (meaning_of (chart_of desk)) (standing_of desk) (Some report_said)) out.old out.new (standing_of result.desk) result.told (is_below result.layout) }
     ensures chart { chart_of result.desk ≡ chart_of desk }
 {
     match desk {
@@ -60,20 +68,20 @@ fn report(desk: Desk<FiledChart>, out: &mut [u8]) -> Turn
             Turn {
                 desk: Desk::Book(book),
                 told,
-                lines: true,
+                layout: Layout::Below,
             }
         }
         Desk::Sheet(sheet) => Turn {
             desk: Desk::Sheet(sheet),
             told: put_text(b"not on a sheet", out),
-            lines: false,
+            layout: Layout::Behind,
         },
     }
 }
 
 // Carries out a call, or reports.
 fn obey(heap: Global, desk: Desk<FiledChart>, command: Command<'_>, out: &mut [u8]) -> Turn
-    ensures done { DoneOrMemory (outcome_for (meaning_of (chart_of desk)) (standing_of desk) (Some (said_by command.entry))) (standing_of desk) out.old out.new (standing_of result.desk) result.told result.lines }
+    ensures done { DoneOrMemory (outcome_for (meaning_of (chart_of desk)) (standing_of desk) (Some (said_by command.entry))) (standing_of desk) out.old out.new (standing_of result.desk) result.told (is_below result.layout) }
     ensures chart { chart_of result.desk ≡ chart_of desk }
 {
     match command {
@@ -90,7 +98,7 @@ fn answer<'a>(
     line: &'a [u8],
     out: &mut [u8],
 ) -> Turn
-    ensures done { DoneOrMemory (outcome_for (meaning_of (chart_of desk)) (standing_of desk) (command_of names.now line.now)) (standing_of desk) out.old out.new (standing_of result.desk) result.told result.lines }
+    ensures done { DoneOrMemory (outcome_for (meaning_of (chart_of desk)) (standing_of desk) (command_of names.now line.now)) (standing_of desk) out.old out.new (standing_of result.desk) result.told (is_below result.layout) }
     ensures chart { chart_of result.desk ≡ chart_of desk }
     ensures leads { LeadsOn (meaning_of (chart_of desk)) (command_of names.now line.now) (standing_of desk) (standing_of result.desk) }
 {
@@ -99,26 +107,19 @@ fn answer<'a>(
         None => Turn {
             desk,
             told: put_text(b"unreadable", out),
-            lines: false,
+            layout: Layout::Behind,
         },
     }
 }
 
-// A line without the line end that it may have.
-fn text_of(line: &[u8]) -> &[u8]
-    ensures { result.now ≡ text_of line.now }
-{
-    match line {
-        [text @ .., b'\n'] => text,
-        text => text,
-    }
-}
-
 // The line, and its answer behind it or in lines of its own below it.
-fn print(rt: &HostRuntime, line: &[u8], lines: bool, answer: &[u8]) -> io::Result<()> {
+fn print(rt: &HostRuntime, line: &[u8], layout: Layout, answer: &[u8]) -> io::Result<()> {
     let mut stdout = rt.stdout();
     stdout.write_all(line)?;
-    stdout.write_all(if lines { b":\n" } else { b": " })?;
+    stdout.write_all(match layout {
+        Layout::Behind => b": ",
+        Layout::Below => b":\n",
+    })?;
     stdout.write_all(answer)
 }
 
@@ -130,26 +131,23 @@ fn exchange<'a>(
     line: &'a [u8],
     out: &mut [u8],
 ) -> io::Result<Desk<FiledChart>> {
-    let Turn { desk, told, lines } = answer(rt.alloc(), desk, names, line, out);
+    let Turn { desk, told, layout } = answer(rt.alloc(), desk, names, line, out);
     if let Some(end) = told {
-        print(rt, line, lines, &out[0..end])?;
+        print(rt, line, layout, &out[..end])?;
     }
     Ok(desk)
 }
 
 // Reads lines until the input ends: the names, and then one call a line.
 pub(crate) fn serve(rt: &HostRuntime, mut desk: Desk<FiledChart>) -> io::Result<()> {
-    let mut input = rt.stdin().lock();
-    let mut names = Vec::new(rt.alloc());
-    let mut line = Vec::new(rt.alloc());
     let mut out = [0; OUT_BYTES];
-    input.read_until(b'\n', &mut names)?;
-    for _ in 0..u64::MAX {
-        line.clear();
-        if input.read_until(b'\n', &mut line)? == 0 {
-            break;
-        }
-        desk = exchange(rt, desk, text_of(&names), text_of(&line), &mut out)?;
+    let mut lines = rt.stdin().lock().split(rt.alloc(), b'\n');
+    let Some(names) = lines.next() else {
+        return Ok(());
+    };
+    let names = names?;
+    for line in lines {
+        desk = exchange(rt, desk, &names, &line?, &mut out)?;
     }
     Ok(())
 }

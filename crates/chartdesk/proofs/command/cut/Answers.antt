@@ -1,17 +1,13 @@
-use Rattle.chartdesk.proofs.Words.{rest-cut, rest-none, word_cut, word-whole}
+use Rattle.std.proofs.Common.{sym, ◌∙◌}
+use Rattle.chartdesk.proofs.Words.{rest-cut, rest-none, word-cut, word-whole}
 use Rattle.chartdesk.proofs.command.cut.Goals as goal
 
-pub returns-then-end-text : goal.returns-then-end-text
-returns-then-end-text c =
-    let xs = c.args.text.now in
-    let e = c.word_end-end in
-    record { word = word_cut xs e.result e.ensures; rest = rest-cut xs e.result e.ensures c.if-end-text.true }
+pub returns-in-Some : goal.returns-in-Some
+returns-in-Some c =
+    let found = sym c.space.ensures ∙ c.in-Some.is in
+    record { word = word-cut c.args.text.now c.in-Some.end found; rest = rest-cut c.args.text.now c.in-Some.end found }
 
-pub returns-else-end-text : goal.returns-else-end-text
-returns-else-end-text c =
-    let xs = c.args.text.now in
-    let e = c.word_end-end in
-    record {
-      word = word-whole xs e.result e.ensures c.if-end-text.false;
-      rest = rest-none xs e.result e.ensures c.if-end-text.false;
-    }
+pub returns-in-None : goal.returns-in-None
+returns-in-None c =
+    let none = sym c.space.ensures ∙ c.in-None.is in
+    record { word = word-whole c.args.text.now none; rest = rest-none c.args.text.now none }

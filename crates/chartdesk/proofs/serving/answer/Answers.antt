@@ -1,6 +1,7 @@
 use Rattle.std.proofs.Common.{false, Some, None, refl, inl}
 use Rattle.chart.specs.Filed.{chart_of as meaning_of}
 use Rattle.desk.specs.Told.{chart_of, standing_of}
+use Rattle.chartdesk.specs.Layouts.{is_below}
 use Rattle.chartdesk.specs.Commands.{command_of, said_by}
 use Rattle.chartdesk.proofs.Kept.{done-as, leads-on}
 use Rattle.chartdesk.proofs.serving.answer.Goals as goal
@@ -13,8 +14,8 @@ returns-in-Some c =
     let k = c.obey in
     let last = standing_of k.result.desk in
     let out = c.args.out.now in
-    let done = done-as μ (Some (said_by c.in-Some.command)) said d last out k.new.out k.result.told k.result.lines c.in-Some.ensures k.ensures.done in
-    record { done = done; chart = k.ensures.chart; leads = leads-on μ said d last out k.new.out k.result.told k.result.lines done }
+    let done = done-as μ (Some (said_by c.in-Some.command)) said d last out k.new.out k.result.told (is_below k.result.layout) c.in-Some.ensures k.ensures.done in
+    record { done = done; chart = k.ensures.chart; leads = leads-on μ said d last out k.new.out k.result.told (is_below k.result.layout) done }
 
 pub returns-in-None : goal.returns-in-None
 returns-in-None c =
