@@ -1,57 +1,18 @@
 -- The questions of a pair answer the pair of the meanings.
-use Rattle.std.proofs.Common.{◌≡◌, ℕ, ◌+◌, ◌-◌, ◌*◌, ◌/◌, ◌%◌, ◌<◌, ◌≤◌, true, ltb, List, ◌++◌, map, length, get_or, Some, None, Option, sym, ap, ◌∙◌, ⊎_elim, div-lt_iff_lt-mul, arith, length-append}
-use Rattle.std.specs.List.{slice_get}
-use Rattle.std.specs.Option.{option_map, MatchOption}
-use Rattle.std.proofs.iter.runs.Lists.{nth_left, nth_right, slice_get-map, nth_read, slice_get_within, same_Some}
+use Rattle.std.proofs.Common.{◌≡◌, ℕ, ◌+◌, ◌*◌, ◌/◌, ◌%◌, ◌<◌, ◌≤◌, true, ltb, List, map, length, Some, None, Option, sym, ap, ◌∙◌, ⊎_elim, div-lt_iff_lt-mul, arith, length-append}
+use Rattle.std.specs.Option.{MatchOption}
+use Rattle.std.proofs.iter.runs.Lists.{same_Some}
 use Rattle.std.proofs.lemmas.Nat.{mod_below}
 use Rattle.std.proofs.lemmas.List.{get_or_past, length-map}
 use Rattle.std.proofs.lemmas.Bool.{cases_lt, cond-true, cond-false, lt-ltb, le-ltb}
-use Rattle.chart.specs.declared.side.Side.TheVariants.{Left, Right}
-use Rattle.chart.specs.Pairs.{mover_at, sides_at, joined-size, joined-row}
-use Rattle.ctl.specs.Chart.{Meaning, blank, size, row, ways_of, degree, way_at, idle, pair_row, joined, fitting, pair, Lawful}
-
--- a way leads to a mode of the chart
-pub way-below : (μ : Meaning) → Lawful μ → (i p x : ℕ) → i < size μ → Some x ≡ way_at μ i p → x < size μ
-way-below μ u i p x h e =
-    let k : p < length (ways_of μ i) = slice_get_within (ways_of μ i) p x (sym e) in
-    let r = nth_read (ways_of μ i) p 0 k in
-    let same : x ≡ get_or (ways_of μ i) p 0 = cc in
-    omega (arith, (u.1.1.1.1 i h).1.1 p k)
+use Rattle.chart.specs.Pairs.{sides_at, joined-size, joined-row}
+use Rattle.ctl.specs.Chart.{Meaning, blank, size, row, ways_of, degree, idle, pair_row, joined, fitting, pair}
 
 abbrev left_ways : Meaning → Meaning → ℕ → ℕ → List ℕ
 left_ways μ ν i j = map (λ x. x * size ν + j) (ways_of μ i)
 
 abbrev right_ways : Meaning → Meaning → ℕ → ℕ → List ℕ
 right_ways μ ν i j = map (λ y. i * size ν + y) (ways_of ν j)
-
-mover-left : (μ : Meaning) (i p q : ℕ) → Left q ≡ mover_at μ i p → (p < degree μ i) × (q ≡ p)
-mover-left μ i p q e =
-    ⊎_elim
-    (λ h. let k = cond-true (ltb p (degree μ i)) (Left p) (Right (p - degree μ i)) (lt-ltb p (degree μ i) h) in (h, cc))
-    (λ h. let k = cond-false (ltb p (degree μ i)) (Left p) (Right (p - degree μ i)) (le-ltb p (degree μ i) h) in let z : ◌≡◌ {A = ℕ} 0 1 = cc in absurd (omega arith))
-    (cases_lt p (degree μ i))
-
-mover-right : (μ : Meaning) (i p q : ℕ) → Right q ≡ mover_at μ i p → p ≡ degree μ i + q
-mover-right μ i p q e =
-    ⊎_elim
-    (λ h. let k = cond-true (ltb p (degree μ i)) (Left p) (Right (p - degree μ i)) (lt-ltb p (degree μ i) h) in let z : ◌≡◌ {A = ℕ} 0 1 = cc in absurd (omega arith))
-    (λ h. let k = cond-false (ltb p (degree μ i)) (Left p) (Right (p - degree μ i)) (le-ltb p (degree μ i) h) in let same : q ≡ p - degree μ i = cc in omega arith)
-    (cases_lt p (degree μ i))
-
-pub left-moves : (μ ν : Meaning) (i j p q : ℕ) (o : Option ℕ) → Left q ≡ mover_at μ i p → o ≡ way_at μ i q → option_map (λ x. x * size ν + j) o ≡ slice_get (pair_row μ ν i j).ways p
-left-moves μ ν i j p q o e f =
-    let at = mover-left μ i p q e in
-    let long = length-map (ways_of μ i) (λ x. x * size ν + j) in
-    sym (nth_left (left_ways μ ν i j) (right_ways μ ν i j) p (omega arith)
-    ∙ (slice_get-map (λ x. x * size ν + j) (ways_of μ i) p ∙ ap (λ k. option_map (λ x. x * size ν + j) (way_at μ i k)) (sym at.1) ∙ ap (option_map (λ x. x * size ν + j)) (sym f)))
-
-pub right-moves : (μ ν : Meaning) (i j p q : ℕ) (o : Option ℕ) → Right q ≡ mover_at μ i p → o ≡ way_at ν j q → option_map (λ y. i * size ν + y) o ≡ slice_get (pair_row μ ν i j).ways p
-right-moves μ ν i j p q o e f =
-    let at = mover-right μ i p q e in
-    let long = length-map (ways_of μ i) (λ x. x * size ν + j) in
-    let place : p ≡ length (left_ways μ ν i j) + q = omega arith in
-    sym (ap (slice_get (left_ways μ ν i j ++ right_ways μ ν i j)) place
-    ∙ (nth_right (left_ways μ ν i j) (right_ways μ ν i j) q ∙ (slice_get-map (λ y. i * size ν + y) (ways_of ν j) q ∙ ap (option_map (λ y. i * size ν + y)) (sym f))))
 
 -- the modes of the sides
 sides-some : (l r m i j : ℕ) → 0 < r → Some (i, j) ≡ sides_at l r m → (m < l * r) × ((i ≡ m / r) × (j ≡ m % r))

@@ -22,6 +22,7 @@ pub(crate) fn heading(modes: usize, marks: usize, start: usize) -> [Piece<'stati
     ]
 }
 
+// The word of an answer, whose type is another crate's and can have no method here.
 pub(crate) fn word(answer: Verdict) -> &'static [u8]
     ensures { result.now ≡ word_of answer }
 {

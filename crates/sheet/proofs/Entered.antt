@@ -12,6 +12,7 @@ use Rattle.ctl.specs.Lines.{Distinct, Ordered, Written, lines_of}
 use Rattle.ctl.specs.Property.{Form, normal}
 use Rattle.ctl.specs.Rounds as rounds
 use Rattle.ctl.specs.Rounds.{Progress, extended, rules_of}
+use Rattle.ctl.specs.declared.rule.Rule.{Rule}
 use Rattle.ctl.proofs.Steady.{rules-extended}
 use Rattle.ctl.proofs.Places.{lines_stay, lines-ordered-and-distinct}
 use Rattle.entry.specs.Entries.{Enters}
@@ -21,6 +22,7 @@ use Rattle.property.specs.declared.shape.Part.{Part}
 use Rattle.rounds.specs.Held.{progress_of}
 use Rattle.rounds.specs.declared.line.Line.{Line}
 use Rattle.sheet.specs.State.{State, Entered, state_of, kept, after_reading}
+use Rattle.sheet.specs.Used.{rules_in}
 use Rattle.sheet.specs.declared.work.Work.{Work}
 use Rattle.sheet.proofs.Fronts.{lines-held, lines-used}
 
@@ -57,7 +59,34 @@ entering μ w x u ps r n s xs ls o e few l h =
     let here = own found.0 (sym (e ∙ ap parts_of found.1)) few (lines-held w) in
     record { tree = found.0; was = found.1; enters = subst (λ (k : ℕ). Enters k μ (state_of w).progress found.0 r n (progress_of (take n xs) s)) all here }
 
-module _ (μ : Meaning) (w : Work) (x : Result (Syntax ℕ) Refusal) (r : Result ℕ Refusal) (n s : ℕ) (xs : List Line) (e : Entering μ w x r n s xs) where
+-- the lines that were lent are back in their place
+came-back : (w : Work) (ls xs : List Line) → ls ≡ vec_items w.lines → length xs ≡ length ls → vec_items (with_items w.lines xs) ≡ xs
+came-back w ls xs e k = with_items_is w.lines xs (k ∙ ap length e ∙ sym w.lines.ok.0)
+
+-- what is known once the lines of a text were written, or were not
+pub record Wrote (μ : Meaning) (w : Work) (x : Result (Syntax ℕ) Refusal) (r : Result ℕ Refusal) (n s : ℕ) (xs : List Line) : Type 0 where
+  pub entering : Entering μ w x r n s xs
+  pub back : vec_items (with_items w.lines xs) ≡ xs
+
+pub wrote : (μ : Meaning) (w : Work) (x : Result (Syntax ℕ) Refusal) (u : Unit {0}) (held ps : List Part) (r : Result ℕ Refusal) (n s : ℕ) (xs ls : List Line)
+    → Ok u ≡ outcome x
+    → held ≡ parts_of x
+    → length held ≤ 255
+    → ps ≡ held
+    → ls ≡ vec_items w.lines
+    → length xs ≡ length ls
+    → Writes μ w ps r n s xs ls
+    → Wrote μ w x r n s xs
+wrote μ w x u held ps r n s xs ls o e few p l k h =
+    record {
+      entering = entering μ w x u ps r n s xs ls o (p ∙ e) (subst (λ (qs : List Part). length qs ≤ 255) (sym p) few) l h;
+      back = came-back w ls xs l k;
+    }
+
+module _ (μ : Meaning) (w : Work) (x : Result (Syntax ℕ) Refusal) (r : Result ℕ Refusal) (n s : ℕ) (xs : List Line) (wr : Wrote μ w x r n s xs) where
+  abbrev e : Entering μ w x r n s xs
+  e = wr.entering
+
   abbrev before : Progress
   before = (state_of w).progress
 
@@ -91,6 +120,15 @@ module _ (μ : Meaning) (w : Work) (x : Result (Syntax ℕ) Refusal) (r : Result
   -- refused: all is as it was
   pub full-after : (y : Refusal) → r ≡ Err y → after ≡ before
   full-after y h = e.enters.2 ∙ cond-false fits _ _ (full y h)
+
+  full-rules : (y : Refusal) → r ≡ Err y → rules_of before ≡ rules_in n (vec_items (with_items w.lines xs))
+  full-rules y h = sym (ap rules_of (full-after y h)) ∙ ap (rules_in n) (sym wr.back)
+
+  pub full-ordered : (y : Refusal) → r ≡ Err y → ∥ Ordered (rules_in n (vec_items (with_items w.lines xs))) ∥₁
+  full-ordered y h = subst (λ (rs : List Rule). ∥ Ordered rs ∥₁) (full-rules y h) w.ordered
+
+  pub full-apart : (y : Refusal) → r ≡ Err y → ∥ Distinct (rules_in n (vec_items (with_items w.lines xs))) ∥₁
+  full-apart y h = subst (λ (rs : List Rule). ∥ Distinct rs ∥₁) (full-rules y h) w.apart
 
   pub full-few : (y : Refusal) → r ≡ Err y → n ≤ 64
   full-few y h =
@@ -126,11 +164,14 @@ module _ (μ : Meaning) (w : Work) (x : Result (Syntax ℕ) Refusal) (r : Result
       let few = leb-true (length lines.rules) 64 (room l h) in
       omega arith
 
-  pub room-ordered : (l : ℕ) → r ≡ Ok l → ∥ Ordered (rules_of after) ∥₁
-  room-ordered l h = ∥∥₁_map w.ordered (λ o. subst Ordered (sym (rules l h)) ((lines-ordered-and-distinct (rules_of before) form).0 o))
+  room-rules : (l : ℕ) → r ≡ Ok l → lines.rules ≡ rules_in n (vec_items (with_items w.lines xs))
+  room-rules l h = sym (rules l h) ∙ ap (rules_in n) (sym wr.back)
 
-  pub room_apart : (l : ℕ) → r ≡ Ok l → ∥ Distinct (rules_of after) ∥₁
-  room_apart l h = ∥∥₁_map w.apart (λ o. subst Distinct (sym (rules l h)) ((lines-ordered-and-distinct (rules_of before) form).1 o))
+  pub room-ordered : (l : ℕ) → r ≡ Ok l → ∥ Ordered (rules_in n (vec_items (with_items w.lines xs))) ∥₁
+  room-ordered l h = ∥∥₁_map w.ordered (λ o. subst Ordered (room-rules l h) ((lines-ordered-and-distinct (rules_of before) form).0 o))
+
+  pub room-apart : (l : ℕ) → r ≡ Ok l → ∥ Distinct (rules_in n (vec_items (with_items w.lines xs))) ∥₁
+  room-apart l h = ∥∥₁_map w.apart (λ o. subst Distinct (room-rules l h) ((lines-ordered-and-distinct (rules_of before) form).1 o))
 
   pub room-kept : (l : ℕ) → r ≡ Ok l → length (vec_items w.entries) < 32
       → after_reading μ (state_of w) x ≡ record { answer = Ok l; after = record { progress = after; entries = vec_items w.entries ++ l ∷ [] } }
@@ -146,7 +187,3 @@ module _ (μ : Meaning) (w : Work) (x : Result (Syntax ℕ) Refusal) (r : Result
       kept-room : (t : State) → leb (length (lines_of (rules_of t.progress) form).rules) 64 ≡ true → ltb (length t.entries) 32 ≡ true
           → kept μ t form ≡ record { answer = Ok (lines_of (rules_of t.progress) form).line; after = record { progress = entered_on μ t.progress form; entries = t.entries ++ (lines_of (rules_of t.progress) form).line ∷ [] } }
       kept-room t a b = rw (a, b)
-
--- the lines that were lent are back in their place
-pub came-back : (w : Work) (ls xs : List Line) → ls ≡ vec_items w.lines → length xs ≡ length ls → vec_items (with_items w.lines xs) ≡ xs
-came-back w ls xs e k = with_items_is w.lines xs (k ∙ ap length e ∙ sym w.lines.ok.0)

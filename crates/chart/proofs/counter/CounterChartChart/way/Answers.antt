@@ -1,6 +1,6 @@
 use Rattle.std.proofs.Common.{arith, sym, ◌∙◌}
 use Rattle.std.proofs.lemmas.Bool.Decides.{nat_tests}
-use Rattle.chart.proofs.Counters.{counter-degree, way-by}
+use Rattle.chart.proofs.Counters.{counter-degree}
 use Rattle.chart.proofs.counter.CounterChartChart.way.Goals as goal
 
 pub overflow_add-result : goal.overflow_add-result

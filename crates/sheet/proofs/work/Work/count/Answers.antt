@@ -1,4 +1,4 @@
-use Rattle.std.proofs.Common.{◌-◌, List, take, ap, ◌∙◌}
+use Rattle.std.proofs.Common.{List, take, ap, ◌∙◌}
 use Rattle.ctl.specs.Rounds.{rounds_of, rules_of, looping_of, plain_of}
 use Rattle.rounds.specs.Held.{progress_of}
 use Rattle.rounds.specs.declared.line.Line.{Line}

@@ -1,4 +1,4 @@
-use Rattle.std.proofs.Common.{ℕ, ◌-◌, ◌≤◌, List, length, take, refl, ap, ◌∙◌, subst}
+use Rattle.std.proofs.Common.{ℕ, ◌≤◌, List, length, take, refl, ap, ◌∙◌, subst}
 use Rattle.basis.specs.Lines.{answered, overlaid}
 use Rattle.report.specs.Drafts.{drafted}
 use Rattle.sheet.specs.declared.work.Counts.{Counts}
