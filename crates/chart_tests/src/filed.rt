@@ -79,8 +79,6 @@ fn new_place(rt: HostRuntime) -> Result<(), Fail> {
 fn from_file(rt: HostRuntime) -> Result<(), Fail> {
     let meter = FiledChart::from_file(rt.alloc(), &METER)?;
     assert!(rt; is_meter(&meter));
-    assert!(rt;
-        FiledChart::from_file(rt.alloc(), &METER[..11]).err() == Some(Refusal::ShortFile)
-    );
+    assert!(rt; FiledChart::from_file(rt.alloc(), &METER[..11]).err() == Some(Refusal::ShortFile));
     Ok(())
 }

@@ -11,6 +11,8 @@ mod telling;
 use intake::{fill, read_chart_file};
 use telling::tell;
 
+// What is read lies in arrays, so that reading takes no memory.
+
 // One byte more than the longest chart file has.
 const FILE_BYTES: usize = 5133;
 

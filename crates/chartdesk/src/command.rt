@@ -8,14 +8,14 @@ use desk::Call;
 // More modes than any path has that is shown.
 const PATH_MODES: usize = 256;
 
-// A call, or the report of the book.
+// A call, or the report of the book, which is no call and no want of one.
 #[derive(Clone, Copy)]
 pub(crate) enum Command<'a> {
     Carry(Call<'a>),
     Report,
 }
 
-// The place of the first space.
+// The place of the first space; a function of its own for its clause.
 fn space(text: &[u8]) -> Option<usize>
     ensures { result ≡ position (λ byte. byte == 32) text.now }
 {
@@ -101,6 +101,7 @@ fn advance<'a>(rest: &[u8]) -> Option<Command<'a>>
     Some(Command::Carry(Call::Advance(number(rest)?)))
 }
 
+// Asking and showing differ in the call that they make, which a parameter would only move to the caller.
 fn ask<'a>(rest: &[u8]) -> Option<Command<'a>>
     ensures { said_in result ≡ ask_of rest.now }
 {

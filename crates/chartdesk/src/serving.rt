@@ -34,6 +34,8 @@ struct Turn {
     layout: Layout,
 }
 
+// The functions below hand the desk on, and each says beside what it does that the chart is the same.
+
 // Carries out a call; where there is no memory for it the desk stays.
 fn carry(heap: Global, desk: Desk<FiledChart>, call: Call<'_>, out: &mut [u8]) -> Turn
     ensures done { DoneOrMemory (outcome_for (meaning_of (chart_of desk)) (standing_of desk) (Some (said (call_of call.entry)))) (standing_of desk) out.old out.new (standing_of result.desk) result.told (is_below result.layout) }

@@ -32,7 +32,7 @@ pub fn read(names: &[u8], marks: usize, text: &[u8], parts: &mut Parts) -> Resul
     answer
 }
 
-// First the list of names, then the text's length, then the text.
+// First the list of names, then the text's length, then the text. The parameters are those of the public call.
 fn read_checked(names: &[u8], marks: usize, text: &[u8], parts: &mut Parts) -> Result<(), Refusal>
     ensures { with_parts result parts.new.list ≡ as_parts (reading names.now marks text.now) }
 {

@@ -27,7 +27,7 @@ pub enum Part {
     Binary(BinaryOperator),
 }
 
-// An opening bracket: `(`, `E[` or `A[`.
+// An opening bracket: `(`, `E[` or `A[`. A round one is no square one whose quantifier is missing.
 #[derive(Clone, Copy)]
 pub enum Opening {
     Round,
@@ -48,7 +48,7 @@ pub enum Closing {
     Square,
 }
 
-// What a waiting token waits for: its operand, the left one, or the right one.
+// What a waiting token waits for: its operand, the left one, or the right one. It lies on the stack, so it is data.
 #[derive(Clone, Copy)]
 pub enum Tag {
     Unary(UnaryOperator),

@@ -19,7 +19,8 @@ pub struct Placed<'a> {
     pub position: usize,
 }
 
-// What one more byte makes: a name begins, a capital waits, a token is whole, or no token can be formed.
+// What one more byte makes: a name begins, a capital waits, a token is whole, or no token can be formed. The reader's
+// definition has the same four cases.
 #[derive(Clone, Copy)]
 pub enum Step<'a> {
     Name,

@@ -23,6 +23,7 @@ pub(crate) fn heading(modes: usize, marks: usize, start: usize) -> [Piece<'stati
 }
 
 // The word of an answer, whose type is another crate's and can have no method here.
+// The bytes of a piece, which a `Display` could not lend.
 pub(crate) fn word(answer: Verdict) -> &'static [u8]
     ensures { result.now ≡ word_of answer }
 {

@@ -62,17 +62,29 @@ impl Modes {
         Ok(Modes { held })
     }
 
+    // The modes that a test takes, by whether they are in each of two sets.
+    fn joined<F: Fn(bool, bool) -> bool>(
+        &self,
+        heap: Global,
+        right: &Modes,
+        takes: F,
+    ) -> Result<Modes, AllocError>
+        requires { F.IsAlwaysCallable takes }
+    {
+        let pairs = self.held.iter().zip(right.held.iter());
+        let held = pairs
+            .map(|(left, right)| takes(*left, *right))
+            .collect(heap)?;
+        Ok(Modes { held })
+    }
+
     // The modes in both sets.
     pub(crate) fn and(&self, heap: Global, right: &Modes) -> Result<Modes, AllocError> {
-        let pairs = self.held.iter().zip(right.held.iter());
-        let held = pairs.map(|(left, right)| *left && *right).collect(heap)?;
-        Ok(Modes { held })
+        self.joined(heap, right, |left, right| left && right)
     }
 
     // The modes in one set or the other.
     pub(crate) fn or(&self, heap: Global, right: &Modes) -> Result<Modes, AllocError> {
-        let pairs = self.held.iter().zip(right.held.iter());
-        let held = pairs.map(|(left, right)| *left || *right).collect(heap)?;
-        Ok(Modes { held })
+        self.joined(heap, right, |left, right| left || right)
     }
 }

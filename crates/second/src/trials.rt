@@ -49,6 +49,11 @@ impl Trials {
         }
     }
 
+    fn draw_within(&mut self, most: Most) -> Result<FiledChart, Stop> {
+        let plan = Plan::draw(&mut self.random, most);
+        filed(self.heap, &mut self.random, plan)
+    }
+
     // A chart that stands alone: mostly with few marks, at times with as many as there can be.
     fn draw_small(&mut self) -> Result<FiledChart, Stop> {
         let most = Most {
@@ -56,8 +61,7 @@ impl Trials {
             marks: if self.random.once_in(8) { 16 } else { 5 },
             width: 8,
         };
-        let plan = Plan::draw(&mut self.random, most);
-        filed(self.heap, &mut self.random, plan)
+        self.draw_within(most)
     }
 
     // One with as many modes as there can be.
@@ -78,8 +82,7 @@ impl Trials {
             marks: 3,
             width: 5,
         };
-        let plan = Plan::draw(&mut self.random, most);
-        filed(self.heap, &mut self.random, plan)
+        self.draw_within(most)
     }
 
     fn draw_counter(&mut self, length: u16) -> Result<CounterChart, Stop> {

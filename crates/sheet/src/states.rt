@@ -1,5 +1,6 @@
 // A sheet is work in progress; a book is a finished sheet. Each is moved into the other, and neither has the other's calls.
 // What both can do is written once, in `Work`; the two are types of their own, so that a misuse names the one it met.
+// A call behind `&mut` says that the chart is as it was, since it could have changed.
 use crate::work::Work;
 
 // Texts are entered on a sheet and rounds are made; lines can be asked about at any time.

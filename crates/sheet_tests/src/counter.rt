@@ -10,10 +10,7 @@ const NAMES: &[u8] = b"first,last";
 
 fn blank(heap: Global) -> Result<Sheet<CounterChart>, Fail> {
     let chart = CounterChart::new(4)?;
-    match Sheet::new(heap, chart) {
-        Ok(sheet) => Ok(sheet),
-        Err(_) => Err(Fail::new("no memory")),
-    }
+    Sheet::new(heap, chart).map_err(|_| Fail::new("no memory"))
 }
 
 // Everywhere, the last mode, and the until line of two rounds.

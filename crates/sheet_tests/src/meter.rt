@@ -22,10 +22,7 @@ const WILL_PAY: &[u8] = b"AG(!hired|AFpaying)";
 fn blank(heap: Global) -> Result<Sheet<FiledChart>, Fail> {
     let mut chart = FiledChart::new(heap)?;
     chart.open(METER)?;
-    match Sheet::new(heap, chart) {
-        Ok(sheet) => Ok(sheet),
-        Err(_) => Err(Fail::new("no memory")),
-    }
+    Sheet::new(heap, chart).map_err(|_| Fail::new("no memory"))
 }
 
 fn finished(rt: &impl Abort, heap: Global) -> Result<Book<FiledChart>, Fail> {

@@ -1,4 +1,5 @@
-// A path on a stack, and from there into a caller's buffer.
+// A path on a stack, and from there into a caller's buffer. As with the stack's own calls, a clause `lender` says that
+// the owner of the slots has them back.
 ghost use Rattle.std.specs.Prelude.{◌≡◌, ◌+◌, ◌<◌, ◌≤◌, [], ◌∷◌, ◌++◌, length};
 ghost use Rattle.basis.specs.Lines.{overlaid};
 ghost use Rattle.witness.specs.Path.{path_on, laid_over, traced};

@@ -10,7 +10,7 @@ pub(crate) struct Asked<'a> {
     pub answer: bool,
 }
 
-// The kinds of path, with the lines of the operands.
+// The kinds of path, with the lines of the operands. The definition of what is shown goes by the same three.
 #[derive(Clone, Copy)]
 pub(crate) enum Plan {
     // to the first way out with the answer

@@ -1,4 +1,4 @@
-// The first way out of a mode that passes.
+// The first way out of a mode that passes, for which the chart, the question and the mode are asked together.
 ghost use Rattle.std.specs.Prelude.{◌≡◌};
 ghost use Rattle.ctl.specs.Chart.{ways_of};
 ghost use Rattle.ctl.specs.Tests.{any};

@@ -1,30 +1,22 @@
 // Lines settled by rounds.
 use basis::Refusal;
 use chart::Chart;
-use ctl::{Rule, Temporal};
+use ctl::Rule;
 use rounds::engine::advance;
 use rounds::{Line, ModeSet, Tally};
 use std::alloc::Global;
 
-fn begun(heap: Global, modes: u16, rule: Rule) -> Result<Line, Refusal> {
-    let mut members = ModeSet::new(heap)?;
-    let full = match rule {
-        Rule::Path(Temporal::Release, _, _, _) => true,
-        _ => false,
-    };
-    members.fill(modes, full);
-    Ok(Line {
-        rule,
-        members,
-        rounds: 0,
-    })
+fn begun<C: Chart>(heap: Global, chart: &C, rule: Rule) -> Result<Line, Refusal> {
+    let mut line = Line::new(heap)?;
+    line.begin(chart, rule);
+    Ok(line)
 }
 
 // The lines of these rules after rounds enough for each.
 pub fn settled<C: Chart>(heap: Global, chart: &C, rules: &[Rule]) -> Result<Vec<Line>, Refusal> {
     let mut lines = Vec::new(heap);
     for rule in rules {
-        let line = begun(heap, chart.modes(), *rule)?;
+        let line = begun(heap, chart, *rule)?;
         if lines.push(line).is_err() {
             return Err(Refusal::Memory);
         }

@@ -1,5 +1,5 @@
 // Whether a file is a chart: its header, its length, and each record's layout, with the first cause to refuse it.
-// `specs/Files.antt` has the format.
+// `specs/Files.antt` has the format, by places in the whole file, and the code reads at the same places.
 ghost use Rattle.std.specs.Prelude.{◌≡◌, ◌+◌, ◌*◌, ◌<◌, ◌≤◌, length, Some, None, Ok, Err, MatchResult};
 ghost use Rattle.chart.specs.Files.{Headed, fault, file_length, header_of, limited, lowest, place_of, place_sound, places_sound, sound_at, sound_in, stride};
 ghost use Rattle.chart.specs.Files.{number as number_at};
