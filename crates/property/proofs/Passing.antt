@@ -1,9 +1,9 @@
 -- The longest front that passes a test, and the pieces of a list of names.
-use Rattle.std.proofs.Common.{◌≡◌, ℕ, suc, ◌+◌, ◌<◌, ◌≤◌, Bool, true, false, cond, not, eqb, ltb, List, [], ◌∷◌, length, take, drop, Some, None, Option, sym, refl, ap, ◌∙◌, subst, ◌⊎◌, inl, inr, arith}
-use Rattle.std.proofs.lemmas.List.{take_all}
+use Rattle.std.proofs.Common.{◌≡◌, ℕ, suc, ◌+◌, ◌-◌, ◌<◌, ◌≤◌, Bool, true, false, cond, not, eqb, ltb, List, [], ◌∷◌, length, take, drop, Some, None, Option, sym, refl, ap, ◌∙◌, subst, ◌⊎◌, inl, inr, arith}
+use Rattle.std.proofs.lemmas.List.{take_all, take_rest}
 use Rattle.std.proofs.lemmas.Bool.{cases_Bool, cases_lt, cond-true, cond-false, cond_below, cond_above}
 use Rattle.std.specs.List.{prefix_len, position}
-use Rattle.property.specs.Words.{front_of}
+use Rattle.property.specs.Words.{front_of, is_letter, letters, letters_of}
 use Rattle.property.specs.Lists.{grown, pieces, first_piece, behind}
 
 pub front-count : (p : ℕ → Bool) (xs : List ℕ) → prefix_len p xs ≡ length (front_of p xs)
@@ -25,6 +25,12 @@ front-take p (b ∷ bs) =
           ap (λ x. take (length x) (b ∷ bs)) (cond-false (p b) (b ∷ front_of p bs) [] h)
           ∙ sym (cond-false (p b) (b ∷ front_of p bs) [] h)
     ]
+
+-- the row of letters at a place
+pub row_taken : (t : List ℕ) (at n : ℕ) → n ≡ length (letters_of (take (length t - at) (drop at t))) → letters (take n (take (length t - at) (drop at t))) ≡ letters (letters_of (drop at t))
+row_taken t at n e =
+    ap (λ k. letters (take k (take (length t - at) (drop at t)))) e
+    ∙ ap letters (front-take is_letter (take (length t - at) (drop at t)) ∙ ap letters_of (take_rest t at))
 
 -- the pieces: the first, and those behind its comma
 behind-later : (b e : ℕ) (bs : List ℕ) → behind e bs ≡ behind (suc e) (b ∷ bs)

@@ -26,9 +26,9 @@ pub sought : (k : ℕ) (ls : List ℕ) (ns : List (List ℕ)) → position_from 
 sought k ls [] = refl
 sought k ls (n ∷ ns) = ap (cond (bytes_eq n ls) (Some k)) (sought (k + 1) ls ns)
 
-pub own-place : (o : Option ℕ) (k : ℕ) → option_eq eqb o (Some k) ≡ is_at k o
-own-place None k = refl
-own-place (Some j) k = refl
+pub own_place : (o : Option ℕ) (k : ℕ) → option_eq eqb o (Some k) ≡ is_at k o
+own_place None k = refl
+own_place (Some j) k = refl
 
 -- each name is proper, and stands at its first place
 abbrev pub is_sound : List (List ℕ) → ℕ × List ℕ → Bool

@@ -2,7 +2,7 @@
 ghost use Rattle.std.specs.Prelude.{◌≡◌, ◌+◌, ◌≤◌, length, if◌then◌else◌, Ok, Err};
 ghost use Rattle.std.specs.Iterator.{YieldsFirstRef, item_count};
 ghost use Rattle.basis.specs.declared.refusal.Refusal.TheVariants.{NameList};
-ghost use Rattle.property.specs.Lists.{remaining as names_in, listed, place_of, proper, good_list, Listed};
+ghost use Rattle.property.specs.Lists.{remaining as names_in, listed, place_of, proper, is_at, good_list, Listed};
 ghost use Rattle.property.specs.Words.{letters_of};
 
 use basis::Refusal;
@@ -72,12 +72,20 @@ pub(crate) fn find(list: &[u8], letters: &[u8]) -> Option<usize>
     NamesLeft::of(list).position(|name| name == letters)
 }
 
+// Whether the name's first place in the list is this one.
+#[tactic(auto, using(crate::proofs::Sought::own_place))]
+fn is_first(list: &[u8], name: &[u8], place: usize) -> bool
+    ensures { result ≡ is_at place (place_of name.now (listed list.now)) }
+{
+    find(list, name) == Some(place)
+}
+
 // Whether this is a list of as many names as there are marks, each of 1 to 8 letters a to z, all different.
 fn is_good(list: &[u8], marks: usize) -> bool
     ensures { result ≡ good_list marks list.now }
 {
     NamesLeft::of(list).enumerate().all(|(place, name)| is_proper(name)
-        && find(list, name) == Some(place))
+        && is_first(list, name, place))
         && NamesLeft::of(list).count() == marks
 }
 

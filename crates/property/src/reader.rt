@@ -105,6 +105,7 @@ impl<'a> TokenReader<'a> {
     }
 
     // The longest row of letters from the cursor on.
+    #[tactic(auto, using(crate::proofs::Passing::row_taken))]
     fn name(&mut self) -> Token<'a>
         requires { (self.old.capital ≡ None) × (self.old.cursor ≤ length self.old.text.now) }
         ensures value { word_of result ≡ letters (letters_of (drop self.old.cursor self.old.text.now)) }

@@ -4,7 +4,7 @@ ghost use Rattle.property.specs.Words.{scan};
 ghost use Rattle.property.specs.Lists.{listed};
 ghost use Rattle.basis.specs.declared.refusal.Refusal.{Refusal};
 ghost use Rattle.property.specs.Syntax.{Syntax, built};
-ghost use Rattle.property.specs.Reading.{reading, outcome, parts_of};
+ghost use Rattle.property.specs.Reading.{reading, fits_length, outcome, parts_of};
 ghost use Rattle.property.specs.Laws.{Reads};
 ghost use Rattle.property.specs.Flat.{fit_all, with_parts, as_parts};
 
@@ -37,11 +37,18 @@ fn read_checked(names: &[u8], marks: usize, text: &[u8], parts: &mut Parts) -> R
     ensures { with_parts result parts.new.list ≡ as_parts (reading names.now marks text.now) }
 {
     check_names(names, marks)?;
-    if !(1..=255).contains(&text.len()) {
+    if !fits(text) {
         return Err(Refusal::TextLength);
     }
     parts.clear();
     read_text(names, text, parts)
+}
+
+// Whether a text has 1 to 255 bytes.
+fn fits(text: &[u8]) -> bool
+    ensures { result ≡ fits_length text.now }
+{
+    (1..=255).contains(&text.len())
 }
 
 // Takes token after token, and leaves with the first fault of forming, fitting or look-up.

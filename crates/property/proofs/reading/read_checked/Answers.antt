@@ -1,4 +1,4 @@
-use Rattle.std.proofs.Common.{Err, ap, ◌∙◌, rules}
+use Rattle.std.proofs.Common.{Err, ap, ◌∙◌}
 use Rattle.std.proofs.lemmas.Result.{err_from_is_err_and}
 use Rattle.property.specs.Flat.{with_parts}
 use Rattle.property.proofs.Whole.{refused-list, refused-length, read-parts}
@@ -10,10 +10,10 @@ returns-in_err-check_names c =
     ap (λ x. with_parts x c.args.parts.now.list) p.1
     ∙ (ap Err p.2 ∙ refused-list _ _ _ _ _ c.check_names.ensures.value c.in_err-check_names.was)
 
-pub returns-then-not-contains : goal.returns-then-not-contains
-returns-then-not-contains c =
-    refused-length _ _ _ _ _ c.check_names.ensures.value c.in_ok-check_names.was (search rules)
+pub returns-then-not-fits : goal.returns-then-not-fits
+returns-then-not-fits c =
+    refused-length _ _ _ _ _ c.check_names.ensures.value c.in_ok-check_names.was c.if-not-fits.ensures
 
 pub returns : goal.returns
 returns c =
-    read-parts _ _ _ _ _ _ c.check_names.ensures.value c.in_ok-check_names.was (search rules) c.read_text.ensures
+    read-parts _ _ _ _ _ _ c.check_names.ensures.value c.in_ok-check_names.was c.if-not-fits.ensures c.read_text.ensures
