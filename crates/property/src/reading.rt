@@ -44,7 +44,7 @@ fn read_checked(names: &[u8], marks: usize, text: &[u8], parts: &mut Parts) -> R
     read_text(names, text, parts)
 }
 
-// Whether a text has 1 to 255 bytes.
+// Whether a text has 1 to 255 bytes; apart, so that a mistake in it fails at its own clause.
 fn fits(text: &[u8]) -> bool
     ensures { result ≡ fits_length text.now }
 {
