@@ -72,18 +72,3 @@ pub leads-on : (μ : Meaning) (said : Option Said) (d last : Standing) (before a
     → LeadsOn μ said d last
 leads-on μ said d last before after told lines h =
     elim h [ inl done ↦ leads-by μ said d last done.standing | inr wanting ↦ stays μ said d last wanting.standing ]
-
--- the same said, or the same desk
-pub done-as : (μ : Meaning) (s said : Option Said) (d last : Standing) (before after : List ℕ) (told : Option ℕ) (lines : Bool)
-    → s ≡ said
-    → DoneOrMemory (outcome_for μ d s) d before after last told lines
-    → DoneOrMemory (outcome_for μ d said) d before after last told lines
-done-as μ s said d last before after told lines e h =
-    subst (λ (x : Option Said). DoneOrMemory (outcome_for μ d x) d before after last told lines) e h
-
-pub done_at : {before after : List ℕ} {last : Standing} {told : Option ℕ} {lines : Bool} (said : Option Said) (d x : Desk FiledChart)
-    → d ≡ x
-    → Done (outcome_for (meaning_of (chart_of x)) (standing_of x) said) before after last told lines
-    → Done (outcome_for (meaning_of (chart_of d)) (standing_of d) said) before after last told lines
-done_at {before} {after} {last} {told} {lines} said d x e h =
-    subst (λ (y : Desk FiledChart). Done (outcome_for (meaning_of (chart_of y)) (standing_of y) said) before after last told lines) (sym e) h

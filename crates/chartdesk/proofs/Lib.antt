@@ -1,4 +1,2 @@
-mod Placed
-mod Words
-mod Spelled
 mod Kept
+mod Words

@@ -1,13 +1,12 @@
 -- The first word of a text, and the number that figures spell, from a place on.
-use Rattle.std.proofs.Common.{◌≡◌, ℕ, ◌+◌, ◌-◌, ◌*◌, ◌^◌, ◌<◌, ◌≤◌, Bool, true, false, cond, ◌&&◌, ◌==◌, ltb, List, [], ◌∷◌, length, get_or, take, drop, Some, None, Decides, Option, sym, refl, ap, ◌∙◌, inl, inr, arith, rules}
+use Rattle.std.proofs.Common.{◌≡◌, ℕ, ◌+◌, ◌-◌, ◌*◌, ◌^◌, ◌<◌, ◌≤◌, Bool, true, false, cond, ◌&&◌, ◌==◌, ltb, List, [], ◌∷◌, length, get_or, take, drop, Some, None, Option, sym, refl, ap, ◌∙◌, inl, inr, arith}
 use Rattle.std.proofs.lemmas.Grind.{common_steps}
 use Rattle.std.specs.List.{position, position_or_len}
 use Rattle.std.proofs.lemmas.List.Quantifiers.{position-Some}
-use Rattle.std.proofs.lemmas.Slice.Eq.{bytes_eq-Decides}
-use Rattle.std.proofs.lemmas.List.{drop_more, drop_all, take_rest}
+use Rattle.std.proofs.lemmas.List.{drop_more, take_rest}
 use Rattle.std.proofs.lemmas.Bool.{cases_lt, cond-true, cond-false, lt-ltb, le-ltb}
 use Rattle.std.specs.Char.{is_ascii_digit}
-use Rattle.std.specs.Str.{all_ascii_digits as all_digits, bytes_eq}
+use Rattle.std.specs.Str.{all_ascii_digits as all_digits}
 use Rattle.chartdesk.specs.Commands.{figured, figures_from, number_of, onward, rest_of, value_from, word_end, word_of}
 
 ends : (xs : List ℕ) → position_or_len (λ b. b == 32) xs ≡ word_end xs
@@ -48,38 +47,13 @@ one_more true k bs =
           ∙ sym (past (all_digits bs) (value_from k bs) (let g = grown k bs in omega arith))
     ]
 
-fits : (d : Bool) (v k : ℕ) → cond (d && ltb v (2 ^ 16)) (Some v) None ≡ Some k → k < 2 ^ 16
-fits false v k e = let z : ◌≡◌ {A = ℕ} 0 1 = cc in omega arith
-fits true v k e =
-    elim (cases_lt v (2 ^ 16)) [
-      | inl h ↦ (let t = cond-true (ltb v (2 ^ 16)) (Some v) None (lt-ltb v (2 ^ 16) h) in let z : v ≡ k = cc in omega arith)
-      | inr h ↦ (let t = cond-false (ltb v (2 ^ 16)) (Some v) None (le-ltb v (2 ^ 16) h) in let z : ◌≡◌ {A = ℕ} 0 1 = cc in omega arith)
-    ]
-
--- one figure more, or none
-module _ (n : ℕ) (xs : List ℕ) (i : ℕ) (r : Option ℕ) (inside : i < length xs) (is : r ≡ figured n (get_or xs i 0)) where
-  here : onward r (λ k. figures_from k (drop (i + 1) xs)) ≡ figures_from n (drop i xs)
-  here =
-      ap (λ o. onward o (λ k. figures_from k (drop (i + 1) xs))) is
-      ∙ (one_more (is_ascii_digit (get_or xs i 0)) (n * 10 + (get_or xs i 0 - 48)) (drop (i + 1) xs) ∙ sym (ap (figures_from n) (drop_more xs i 0 inside)))
-
-  pub figure-more : (k : ℕ) → r ≡ Some k → figures_from k (drop (i + 1) xs) ≡ figures_from n (drop i xs)
-  figure-more k e = sym (ap (λ o. onward o (λ k. figures_from k (drop (i + 1) xs))) e) ∙ here
-
-  pub figure-fits : (k : ℕ) → r ≡ Some k → k < 2 ^ 16
-  figure-fits k e = fits (is_ascii_digit (get_or xs i 0)) (n * 10 + (get_or xs i 0 - 48)) k (sym is ∙ e)
-
-  pub no-figure : r ≡ None → None ≡ figures_from n (drop i xs)
-  no-figure e = sym (ap (λ o. onward o (λ k. figures_from k (drop (i + 1) xs))) e) ∙ here
-
-pub figures-end : (n : ℕ) (xs : List ℕ) (i : ℕ) → n < 2 ^ 16 → length xs ≤ i → Some n ≡ figures_from n (drop i xs)
-figures-end n xs i f h =
-    sym (ap (figures_from n) (drop_all i xs h) ∙ cond-true (ltb n (2 ^ 16)) (Some n) None (lt-ltb n (2 ^ 16) f))
+-- the byte at a place is no figure, or the number grows past 65,535
+pub no-figure : (n : ℕ) (xs : List ℕ) (i : ℕ) (r : Option ℕ) → i < length xs → r ≡ figured n (get_or xs i 0) → r ≡ None → None ≡ figures_from n (drop i xs)
+no-figure n xs i r inside is none =
+    sym (ap (λ o. onward o (λ k. figures_from k (drop (i + 1) xs))) none)
+    ∙ (ap (λ o. onward o (λ k. figures_from k (drop (i + 1) xs))) is
+    ∙ (one_more (is_ascii_digit (get_or xs i 0)) (n * 10 + (get_or xs i 0 - 48)) (drop (i + 1) xs) ∙ sym (ap (figures_from n) (drop_more xs i 0 inside))))
 
 pub some-figures : (xs : List ℕ) → (length xs ≡ 0 → ⊥) → figures_from 0 xs ≡ number_of xs
 some-figures [] h = absurd (h refl)
 some-figures (x ∷ xs) h = refl
-
--- equal words
-pub tested : (xs ys : List ℕ) (r : Bool) → Decides r (xs ≡ ys) → r ≡ bytes_eq xs ys
-tested xs ys r h = search (rules, bytes_eq-Decides)

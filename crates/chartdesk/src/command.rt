@@ -76,7 +76,7 @@ fn place_in(text: &[u8]) -> Option<Place>
     Some(Place { line, mode })
 }
 
-// A command of one word.
+// A command of one word. Tests and no `match`, whose last arm has two dozen ways in; the check does not join them.
 fn bare<'a>(word: &[u8]) -> Option<Command<'a>>
     ensures { said_in result ≡ bare_of word.now }
 {
