@@ -1,5 +1,5 @@
 -- What the calls stand for: each text is entered under the names, and then the sheet is finished.
-use Rattle.std.proofs.Common.{◌≡◌, ℕ, List, [], ◌∷◌, ◌++◌, map, length, refl, ap, ◌∙◌, arith, Bor, IfOk, Ok, Err, Result, Vec, vec_items}
+use Rattle.std.proofs.Common.{◌≡◌, ℕ, List, [], ◌∷◌, ◌++◌, map, refl, ap, ◌∙◌, Bor, IfOk, Ok, Err, Result, Vec, vec_items}
 use Rattle.desk.specs.declared.calls.Call.{Call}
 use Rattle.desk.specs.declared.calls.Call.TheVariants.{Enter, Finish}
 use Rattle.desk.specs.Calls.{enter}
@@ -15,7 +15,3 @@ pub all-entered : {Z E : Type 0} (names : Bor (List ℕ)) (texts : List (Bor (Li
     → IfOk r (λ w. map call_of (vec_items w) ≡ enter_all names.now (map (λ x. x.now) texts))
 all-entered names texts (Ok w) h = ap (map call_of) h ∙ entered names texts
 all-entered names texts (Err e) h = h
-
-pub empty : {X : Type 0} (xs : List X) → length xs ≡ 0 → xs ≡ []
-empty [] h = refl
-empty (x ∷ xs) h = absurd (omega arith)

@@ -1,3 +1,2 @@
 mod Entering
 mod Refusals
-mod Room

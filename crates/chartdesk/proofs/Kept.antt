@@ -1,17 +1,13 @@
 -- What carrying out a call gives, and where it leads.
 use Rattle.std.proofs.Common.{◌≡◌, ℕ, Bool, true, false, List, Some, None, Option, sym, refl, ◌∙◌, subst, inl, inr}
-use Rattle.chart.specs.Filed.{chart_of as meaning_of}
-use Rattle.chart.specs.declared.filed.FiledChart.{FiledChart}
 use Rattle.ctl.specs.Chart.{Meaning}
 use Rattle.sheet.specs.State.{State}
 use Rattle.desk.specs.Calls.{Call, enter, advance, ask, count, show, clear, finish, reopen, Event}
 use Rattle.desk.specs.Promise.{LeadsTo}
 use Rattle.desk.specs.Steps.{Standing, as_book, as_sheet, on_book, on_sheet, step_on, step}
-use Rattle.desk.specs.Told.{chart_of, standing_of}
-use Rattle.desk.specs.declared.desks.Desk.{Desk}
 use Rattle.desk.proofs.Running.{leads-more}
 use Rattle.chartdesk.specs.Commands.{Said, call, report}
-use Rattle.chartdesk.specs.Turns.{AnsweredOrMemory, Done, DoneOrMemory, Laid, LeadsOn, Shows, outcome_for, report_on}
+use Rattle.chartdesk.specs.Turns.{AnsweredOrMemory, DoneOrMemory, Laid, LeadsOn, Shows, outcome_for, report_on}
 use Rattle.chartdesk.specs.Wording.{answer_of}
 
 -- showing a path changes nothing

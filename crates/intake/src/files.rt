@@ -15,7 +15,7 @@ pub fn read_chart_file<'a>(rt: &HostRuntime, buffer: &'a mut [u8]) -> io::Result
     }
 }
 
-// What was read until the buffer was full or the input ended. The library's calls that read to an end take memory.
+// What was read until the buffer was full or the input ended; `read_to_end` would take memory.
 pub fn fill<'a, R: Read>(input: &mut R, buffer: &'a mut [u8]) -> io::Result<&'a [u8]>
     ensures { IfOk result (λ read. length read.now ≤ length buffer.old) }
 {
