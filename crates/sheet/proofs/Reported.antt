@@ -73,26 +73,20 @@ count-more i n h e = e ∙ counted-below i h
 
 -- the drafted lines and the total are the bytes of the report
 module _ (μ : Meaning) (w : Work) where
-  whole : ℕ → ℕ → ℕ → List Line → List ℕ → ℕ → ℕ → List ℕ
-  whole modes marks start ls es made most = so_far modes marks start (rows_of (progress_of ls w.tally.settled) start es) ++ total_line made most
+  whole : List Line → List ℕ → ℕ → ℕ → List ℕ
+  whole ls es made most = so_far (size μ) μ.marks μ.start (rows_of (progress_of ls w.tally.settled) μ.start es) ++ total_line made most
 
-  pub bytes-from : (text : List ℕ) (modes marks start : ℕ) (ls : List Line) (es : List ℕ) (made most : ℕ)
-      → text ≡ so_far modes marks start (rows_of (progress_of ls w.tally.settled) start es)
-      → modes ≡ size μ
-      → marks ≡ μ.marks
-      → start ≡ μ.start
+  pub bytes-from : (text : List ℕ) (ls : List Line) (es : List ℕ) (made most : ℕ)
+      → text ≡ so_far (size μ) μ.marks μ.start (rows_of (progress_of ls w.tally.settled) μ.start es)
       → ls ≡ take w.tally.lines (vec_items w.lines)
       → es ≡ vec_items w.entries
       → made ≡ rounds_of (state_of w).progress
       → most ≡ bound μ (rules_of (state_of w).progress)
       → text ++ total_line made most ≡ bytes_of μ (state_of w)
   unfolding whole
-  bytes-from text modes marks start ls es made most t a b c d e f g =
+  bytes-from text ls es made most t d e f g =
       ap (λ (x : List ℕ). x ++ total_line made most) t
-      ∙ ap (λ (x : ℕ). whole x marks start ls es made most) a
-      ∙ ap (λ (x : ℕ). whole (size μ) x start ls es made most) b
-      ∙ ap (λ (x : ℕ). whole (size μ) μ.marks x ls es made most) c
-      ∙ ap (λ (x : List Line). whole (size μ) μ.marks μ.start x es made most) d
-      ∙ ap (λ (x : List ℕ). whole (size μ) μ.marks μ.start (take w.tally.lines (vec_items w.lines)) x made most) e
-      ∙ ap (λ (x : ℕ). whole (size μ) μ.marks μ.start (take w.tally.lines (vec_items w.lines)) (vec_items w.entries) x most) f
-      ∙ ap (λ (x : ℕ). whole (size μ) μ.marks μ.start (take w.tally.lines (vec_items w.lines)) (vec_items w.entries) (rounds_of (state_of w).progress) x) g
+      ∙ ap (λ (x : List Line). whole x es made most) d
+      ∙ ap (λ (x : List ℕ). whole (take w.tally.lines (vec_items w.lines)) x made most) e
+      ∙ ap (λ (x : ℕ). whole (take w.tally.lines (vec_items w.lines)) (vec_items w.entries) x most) f
+      ∙ ap (λ (x : ℕ). whole (take w.tally.lines (vec_items w.lines)) (vec_items w.entries) (rounds_of (state_of w).progress) x) g

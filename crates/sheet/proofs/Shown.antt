@@ -10,7 +10,10 @@ use Rattle.ctl.specs.Paths.{Shape, none, step, reach, stay, shape_of, Shown, sho
 use Rattle.ctl.specs.Rounds.{Progress, Line, line_at}
 use Rattle.ctl.specs.Tests.{has}
 use Rattle.witness.specs.Showing as witness
-use Rattle.sheet.specs.State.{State, placed, showing, told, modes_of, has_path, fitted, borne_out}
+use Rattle.sheet.specs.State.{State, state_of, placed, showing, told, modes_of, has_path, fitted, borne_out}
+use Rattle.sheet.specs.declared.work.Work.{Work}
+use Rattle.sheet.proofs.Asked.{placed-within}
+use Rattle.sheet.proofs.Fronts.{lines-used}
 
 pub nothing-laid : (buffer : List ℕ) → overlaid [] buffer ≡ buffer
 nothing-laid buffer = rw (le-leb 0 (length buffer) (omega arith))
@@ -79,3 +82,16 @@ borne-answer μ p i m room = shape-told (shape_of (line_at p i).rule (has (line_
 
 pub borne-buffer : (μ : Meaning) (p : Progress) (i m : ℕ) (buffer : List ℕ) → overlaid (shown μ p i m).modes buffer ≡ overlaid (modes_of (borne_out μ p i m (length buffer))) buffer
 borne-buffer μ p i m buffer = shape-laid (shape_of (line_at p i).rule (has (line_at p i).members m)) (shown μ p i m) buffer (unshown μ p i m)
+
+-- a line that waits for rounds shows nothing
+pub waiting-answer : (μ : Meaning) (w : Work) (i m room : ℕ) (u : Unit {0}) → Ok u ≡ placed w.tally.lines (size μ) i m → w.tally.settled ≤ i → Err NotSettled ≡ told (showing μ (state_of w) i m room)
+waiting-answer μ w i m room u e h =
+    let within = placed-within w.tally.lines (size μ) i m u e in
+    refused-answer (showing μ (state_of w) i m room) NotSettled (show-not-settled μ (state_of w) i m room (rw (lines-used w) within.0) within.1 h)
+
+pub waiting-buffer : (μ : Meaning) (w : Work) (i m : ℕ) (buffer : List ℕ) (u : Unit {0}) → Ok u ≡ placed w.tally.lines (size μ) i m → w.tally.settled ≤ i → buffer ≡ overlaid (modes_of (showing μ (state_of w) i m (length buffer))) buffer
+waiting-buffer μ w i m buffer u e h =
+    let within = placed-within w.tally.lines (size μ) i m u e in
+    refused-buffer (showing μ (state_of w) i m (length buffer)) NotSettled buffer (show-not-settled μ (state_of w) i m (length buffer) (rw (lines-used w) within.0) within.1 h)
+
+pub ruleset waiting = (waiting-answer, waiting-buffer)

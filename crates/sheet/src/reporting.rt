@@ -44,12 +44,19 @@ fn report_line(lines: &[Line], settled: usize, line: usize, mode: u16) -> Report
     }
 }
 
-// A row for each entry, below the heading.
-fn draft_rows(draft: &mut Draft, lines: &[Line], settled: usize, start: u16, entries: &[usize])
-    requires blank { standing draft.old ≡ 0 }
-    requires few { length entries.now ≤ 32 }
-    ensures { (modes marks begin : ℕ) → drafted draft.old ≡ heading_line modes marks begin → drafted draft.new ≡ so_far modes marks begin (rows_of (progress_of lines.now settled) start entries.now) }
+// The heading, and a row for each entry.
+fn draft_rows<C: Chart>(
+    draft: &mut Draft,
+    chart: &C,
+    lines: &[Line],
+    settled: usize,
+    entries: &[usize],
+)
+    requires { length entries.now ≤ 32 }
+    ensures { drafted draft.new ≡ so_far (size (C.Chart.meaning chart.now)) (C.Chart.meaning chart.now).marks (C.Chart.meaning chart.now).start (rows_of (progress_of lines.now settled) (C.Chart.meaning chart.now).start entries.now) }
 {
+    let start = chart.start();
+    draft.begin(chart.modes() as usize, chart.marks(), start as usize);
     for entry in entries {
         let Reported { answer, rounds } = report_line(lines, settled, *entry, start);
         draft.row(*entry, answer, rounds as usize);
@@ -66,14 +73,11 @@ impl Work {
     {
         let counts = self.count();
         let most = self.most_rounds(chart);
-        let start = chart.start();
-        self.draft
-            .begin(chart.modes() as usize, chart.marks(), start as usize);
         draft_rows(
             &mut self.draft,
+            chart,
             &self.lines[..self.tally.lines],
             self.tally.settled,
-            start,
             &self.entries,
         );
         self.draft.write(counts.rounds, most as usize, out)

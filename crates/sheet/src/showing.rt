@@ -11,6 +11,7 @@ use witness::Shown;
 impl Work {
     // Lays the path for a settled line's answer at a mode into a buffer from its beginning and leaves the rest; answers
     // how many modes it has, and the place to which the last one returns.
+    #[tactic(auto, using(crate::proofs::Shown::waiting))]
     pub(crate) fn show<C: Chart>(
         &mut self,
         chart: &C,

@@ -1,13 +1,14 @@
-use Rattle.std.proofs.Common.{◌≡◌, ℕ, take}
+use Rattle.std.proofs.Common.{◌≡◌, take}
+use Rattle.ctl.specs.Chart.{size}
 use Rattle.report.specs.Drafts.{drafted, standing}
-use Rattle.report.specs.Reports.{heading_line, so_far}
+use Rattle.report.specs.Reports.{so_far}
 use Rattle.rounds.specs.Held.{progress_of}
 use Rattle.sheet.specs.Reported.{rows_of}
 use Rattle.sheet.proofs.reporting.draft_rows.Given as goal
 
 abbrev pub invariant-loop-entry : goal.invariant-loop-entry
-invariant-loop-entry l =
-    ((modes marks begin : ℕ)
-    → drafted l.initial.draft ≡ heading_line modes marks begin
-    → drafted l.draft ≡ so_far modes marks begin (rows_of (progress_of l.lines l.settled) l.start (take l.entry-index l.entries)))
+invariant-loop-entry g l =
+    (drafted l.draft
+    ≡ so_far (size (g.C.Chart.meaning l.chart)) (g.C.Chart.meaning l.chart).marks (g.C.Chart.meaning l.chart).start
+    (rows_of (progress_of l.lines l.settled) (g.C.Chart.meaning l.chart).start (take l.entry-index l.entries)))
     × (standing l.draft ≡ l.entry-index)

@@ -11,9 +11,8 @@ returns g c =
     let μ = g.C.Chart.meaning c.args.chart.now in
     let w = c.args.self.now in
     let bytes =
-    bytes-from μ w (drafted c.draft_rows.new.draft) c.modes.result c.marks.result c.start-start.result (take w.tally.lines c.deref.result.now) c.deref-2.result.now
-    c.count-counts.result.rounds c.most_rounds-most.result
-    (c.draft_rows.ensures c.modes.result c.marks.result c.start-start.result c.begin.ensures.text) c.modes.ensures c.marks.ensures c.start-start.ensures (lent-used w c.deref.result.now c.deref.ensures.value) c.deref-2.ensures.value
+    bytes-from μ w (drafted c.draft_rows.new.draft) (take w.tally.lines c.deref.result.now) c.deref-2.result.now c.count-counts.result.rounds c.most_rounds-most.result
+    c.draft_rows.ensures (lent-used w c.deref.result.now c.deref.ensures.value) c.deref-2.ensures.value
     (ap (λ (x : Counts). x.rounds) c.count-counts.ensures) c.most_rounds-most.ensures in
     record {
       answer = c.write.ensures.answer ∙ ap (λ (x : List ℕ). answered x (length c.args.out.now)) bytes;

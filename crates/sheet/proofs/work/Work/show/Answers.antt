@@ -1,7 +1,6 @@
 use Rattle.std.proofs.Common.{◌≡◌, List, length, Err, Result, sym, refl, ap, ◌∙◌, rules}
 use Rattle.basis.specs.Lines.{overlaid}
 use Rattle.basis.specs.declared.refusal.Refusal.{Refusal}
-use Rattle.basis.specs.declared.refusal.Refusal.TheVariants.{NotSettled}
 use Rattle.ctl.specs.Chart.{size}
 use Rattle.ctl.specs.Paths.{Shown, shown}
 use Rattle.rounds.specs.Held.{progress_of}
@@ -10,7 +9,7 @@ use Rattle.witness.specs.Showing as witness
 use Rattle.sheet.specs.State.{showing, state_of, told, modes_of}
 use Rattle.sheet.proofs.Fronts.{lines-used, lent-used}
 use Rattle.sheet.proofs.Asked.{placed-within}
-use Rattle.sheet.proofs.Shown.{show-refused, show-not-settled, show-settled, refused-answer, refused-buffer, same-shown, borne-answer, borne-buffer}
+use Rattle.sheet.proofs.Shown.{show-refused, show-settled, refused-answer, refused-buffer, same-shown, borne-answer, borne-buffer}
 use Rattle.sheet.proofs.work.Work.show.Goals as goal
 
 pub returns-in_err-check : goal.returns-in_err-check
@@ -23,16 +22,6 @@ returns-in_err-check g c =
     let r = show-refused μ (state_of w) c.args.line c.args.mode (length buffer) e (rw (lines-used w) c.in_err-check.ensures) in
     let answer : c.from_residual.result ≡ Err e = search rules in
     record { answer = answer ∙ refused-answer x e r; buffer = refused-buffer x e buffer r; after = refl }
-
-pub returns-then-line-self : goal.returns-then-line-self
-returns-then-line-self g c =
-    let w = c.args.self.now in
-    let μ = g.C.Chart.meaning c.args.chart.now in
-    let buffer = c.args.path.now in
-    let within = placed-within w.tally.lines (size μ) c.args.line c.args.mode _ c.in_ok-check.ensures in
-    let x = showing μ (state_of w) c.args.line c.args.mode (length buffer) in
-    let e = show-not-settled μ (state_of w) c.args.line c.args.mode (length buffer) (rw (lines-used w) within.0) within.1 c.if-line-self.true in
-    record { answer = refused-answer x NotSettled e; buffer = refused-buffer x NotSettled buffer e; after = refl }
 
 pub returns : goal.returns
 returns g c =
