@@ -5,6 +5,7 @@
 mod letters;
 
 use crate::letters::letter;
+use anyhow::anyhow;
 use intake::{fill, lines_of};
 use property::{Part, Parts, read};
 use std::io;
@@ -36,7 +37,7 @@ fn answer(rt: &HostRuntime, line: &[u8], parts: &mut Parts) -> io::Result<()> {
 fn main(rt: HostRuntime) -> anyhow::Result<()> {
     let mut buffer = [0; 65536];
     let input = fill(&mut rt.stdin(), &mut buffer)?;
-    let mut parts = Parts::new(rt.alloc())?;
+    let mut parts = Parts::new(rt.alloc()).map_err(|_| anyhow!("no memory"))?;
     for line in lines_of(rt.alloc(), input)? {
         answer(&rt, line, &mut parts)?;
     }

@@ -15,6 +15,7 @@ fn is_borne_out(told: Told, settled: Told, last: bool) -> bool {
     }
 }
 
+// What is compared is a sheet with a book on a subject, three things that the caller holds.
 impl<C: Chart> Comparison<'_, C> {
     // The book's answers of a text's line, at every mode.
     pub(crate) fn compare_answers(

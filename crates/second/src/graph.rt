@@ -85,10 +85,10 @@ impl<C: Chart> Graph<'_, C> {
     pub(crate) fn leads<F: Fn(u16) -> bool>(&self, mode: u16, is_wanted: F) -> bool
         requires { F.IsAlwaysCallable is_wanted }
     {
-        (0..self.chart.degree(mode)).any(|place| match self.chart.way(mode, place) {
-            Some(next) => is_wanted(next),
-            None => false,
-        })
+        (0..self.chart.degree(mode)).any(|place| self
+            .chart
+            .way(mode, place)
+            .is_some_and(|next| is_wanted(next)))
     }
 
     // How many modes a path from a mode to the target has at the fewest, if there is one: all its modes but the last
@@ -104,6 +104,7 @@ impl<C: Chart> Graph<'_, C> {
             queue: VecDeque::new(self.heap),
         };
         search.reach(mode, 1)?;
+        // no mode is reached twice, so these turns empty the queue
         for _ in 0..self.chart.modes() {
             let Some(here) = search.queue.pop_front() else {
                 break;

@@ -43,6 +43,7 @@ impl Modes {
         ensures fewer { result ≡ true → absent self.new.held.items + 1 ≡ absent self.old.held.items }
         ensures none { result ≡ false → absent self.new.held.items ≡ absent self.old.held.items }
     {
+        // in a closure what is written would not be known afterwards
         match self.held.get_mut(mode as usize) {
             Some(held) => !mem::replace(held, true),
             None => false,
