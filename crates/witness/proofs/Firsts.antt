@@ -1,5 +1,5 @@
 -- The first element that passes.
-use Rattle.std.proofs.Common.{◌≡◌, ℕ, Bool, true, false, cond, ◌||◌, List, [], ◌∷◌, is_some, Some, None, Option, unwrap_or, refl, ap}
+use Rattle.std.proofs.Common.{◌≡◌, ℕ, Bool, true, false, cond, ◌||◌, List, [], ◌∷◌, is_some, Some, Option, unwrap_or, refl, ap}
 use Rattle.std.specs.List.{find}
 use Rattle.ctl.specs.Tests.{any}
 use Rattle.ctl.specs.Paths.{first_of}
