@@ -122,7 +122,7 @@ impl Refusal {
     }
 }
 
-// The refusal's line without its line end.
+// The refusal's line without its line end. The line itself is laid by pieces, so that a short buffer stays as it is.
 impl fmt::Display for Refusal {
     ghost output = { λ e. Some (refusal_text e) };
 

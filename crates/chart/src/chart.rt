@@ -1,5 +1,6 @@
 // A chart is a finite Kripke structure with ordered successors: modes are its states, ways its transitions, marks its
-// atomic propositions. Every question answers what the chart's meaning holds, and out of range 0 ways, no way, not standing.
+// atomic propositions. Every question answers what the chart's meaning holds, and out of range 0 ways, no way, not
+// standing.
 ghost use Rattle.ctl.specs.Chart.{Lawful, Meaning, size, way_at};
 ghost use Rattle.ctl.specs.Chart.{degree as degree_at, stands as stands_at};
 ghost use Rattle.std.specs.Prelude.{◌≡◌};

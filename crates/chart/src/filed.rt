@@ -1,5 +1,5 @@
 // A chart read from a file. The place for it is made once, with room for the most records that a file may have, so that
-// opening a file takes no memory.
+// opening a file takes no memory: one vector and one fact of its room, which a type for such vectors would not shorten.
 ghost use Rattle.std.specs.Prelude.{◌≤◌, vec_capacity};
 ghost use Rattle.chart.specs.Records.{Bounds, Inside, Rows, meaning_of};
 

@@ -88,7 +88,7 @@ impl<L: Chart, R: Chart> Pair<L, R> {
     }
 }
 
-// Each question tests the fit in an `if` of its own: a closure for the fitting case would be no shorter.
+// Each question tests the fit in an `if` of its own; a function over both cases would hide which answer is which.
 impl<L: Chart, R: Chart> Chart for Pair<L, R> {
     ghost meaning = { λ p. pair (L.Chart.meaning p.left) (R.Chart.meaning p.right) };
 

@@ -1,4 +1,5 @@
-// The example meter: modes 0 vacant, 1 hired, 2 paying, each with a mark of its own; ways 0 to 0 and 1, 1 to 1 and 2, 2 to 0.
+// The example meter: modes 0 vacant, 1 hired, 2 paying, each with a mark of its own; ways 0 to 0 and 1, 1 to 1 and 2,
+// 2 to 0.
 use chart::Chart;
 
 pub(crate) const METER: [u8; 36] = [
@@ -19,22 +20,21 @@ pub(crate) fn edited(at: usize, byte: u8) -> [u8; 36] {
 
 // The ways out of a mode are these, and no more.
 pub(crate) fn ways_are<C: Chart>(chart: &C, mode: u16, ways: &[u16]) -> bool {
-    for (place, way) in ways.iter().enumerate() {
-        if chart.way(mode, place) != Some(*way) {
-            return false;
-        }
-    }
-    chart.degree(mode) == ways.len() && chart.way(mode, ways.len()).is_none()
+    ways.iter()
+        .enumerate()
+        .all(|(place, way)| chart.way(mode, place) == Some(*way))
+        && chart.degree(mode) == ways.len()
+        && chart.way(mode, ways.len()).is_none()
 }
 
 // Of all marks, these stand at the mode.
 pub(crate) fn marks_are<C: Chart>(chart: &C, mode: u16, marks: &[bool]) -> bool {
-    for (mark, standing) in marks.iter().enumerate() {
-        if chart.stands(mark, mode) != *standing {
-            return false;
-        }
-    }
-    chart.marks() == marks.len() && !chart.stands(marks.len(), mode)
+    marks
+        .iter()
+        .enumerate()
+        .all(|(mark, standing)| chart.stands(mark, mode) == *standing)
+        && chart.marks() == marks.len()
+        && !chart.stands(marks.len(), mode)
 }
 
 // Modes, marks, width and start.

@@ -11,7 +11,7 @@ mod telling;
 use intake::{fill, read_chart_file};
 use telling::tell;
 
-// What is read lies in arrays, so that reading takes no memory.
+// What is read and what is printed lies in arrays, so that neither takes memory.
 
 // One byte more than the longest chart file has.
 const FILE_BYTES: usize = 5133;

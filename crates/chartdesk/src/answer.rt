@@ -16,6 +16,8 @@ use desk::{Call, Event, Path};
 use sheet::Counts;
 use std::alloc::Global;
 
+// Each function below lays one kind of answer: its two clauses say which, for what is answered and for the buffer.
+
 pub(crate) fn put_pieces(pieces: &[Piece<'_>], out: &mut [u8]) -> Option<usize>
     ensures answer { result ≡ placed (line_of pieces.now) (length out.old) }
     ensures buffer { out.new ≡ overlaid (line_of pieces.now) out.old }

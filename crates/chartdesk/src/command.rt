@@ -15,7 +15,7 @@ pub(crate) enum Command<'a> {
     Report,
 }
 
-// The place of the first space; a function of its own for its clause.
+// The place of the first space.
 fn space(text: &[u8]) -> Option<usize>
     ensures { result ≡ position (λ byte. byte == 32) text.now }
 {
@@ -76,7 +76,7 @@ fn place_in(text: &[u8]) -> Option<Place>
     Some(Place { line, mode })
 }
 
-// A command of one word. Tests and no `match`, whose last arm has two dozen ways in; the check does not join them.
+// A command of one word. By tests: with a `match` on the words the search left goals open, here and in `with_rest`.
 fn bare<'a>(word: &[u8]) -> Option<Command<'a>>
     ensures { said_in result ≡ bare_of word.now }
 {
@@ -101,7 +101,7 @@ fn advance<'a>(rest: &[u8]) -> Option<Command<'a>>
     Some(Command::Carry(Call::Advance(number(rest)?)))
 }
 
-// Asking and showing differ in the call that they make, which a parameter would only move to the caller.
+// Asking and showing differ in the call that they make; a parameter for it would be as long as the function.
 fn ask<'a>(rest: &[u8]) -> Option<Command<'a>>
     ensures { said_in result ≡ ask_of rest.now }
 {

@@ -9,6 +9,8 @@ use basis::Piece;
 use desk::Path;
 use std::alloc::{AllocError, Global};
 
+// Each function below says what it spells behind what stood there.
+
 // A word and a number behind what stands there.
 fn push_both<'a>(
     pieces: &mut Vec<Piece<'a>>,

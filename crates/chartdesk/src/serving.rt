@@ -16,7 +16,7 @@ use std::alloc::Global;
 use std::io;
 use std::io::{BufRead, Write};
 
-// More than the longest answer has, which is a report of 32 entries.
+// More than the longest answer has, which is a report of 32 entries; an array, so that answering takes no memory.
 const OUT_BYTES: usize = 4096;
 
 // Where an answer is printed: behind its line, or in lines of its own below it.
@@ -34,7 +34,7 @@ struct Turn {
     layout: Layout,
 }
 
-// The functions below hand the desk on, and each says beside what it does that the chart is the same.
+// The functions below hand the desk on by value, so each has to say that its chart is the same.
 
 // Carries out a call; where there is no memory for it the desk stays.
 fn carry(heap: Global, desk: Desk<FiledChart>, call: Call<'_>, out: &mut [u8]) -> Turn

@@ -65,6 +65,9 @@ fn cut(answer: Result<Shown, Refusal>, mut path: Vec<u16>) -> Result<Path, Refus
     })
 }
 
+// A sheet and a book are two types, so each has arms of its own for the calls that both have. Each function below says
+// the event, what stands after it, and that the chart is the same; the memory of a call goes with the call.
+
 // A call on a sheet, which has every one but reopening.
 fn on_sheet<'a, C: Chart>(mut sheet: Sheet<C>, call: Call<'a>, mut path: Vec<u16>) -> Step<'a, C>
     requires { vec_len path ≡ room_of call }

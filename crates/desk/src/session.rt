@@ -10,7 +10,7 @@ use crate::tasks::Task;
 use chart::Chart;
 use std::alloc::{AllocError, Global};
 
-// Every call with its memory.
+// Every call with its memory. A loop, since `try_collect` was tried and left open what it collects.
 fn prepare<'a>(heap: Global, calls: &[Call<'a>]) -> Result<Vec<Task<'a>>, AllocError>
     ensures { IfOk result (λ v. map task_of v.items ≡ map call_of calls.now) }
 {

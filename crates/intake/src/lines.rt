@@ -24,7 +24,7 @@ fn split_line(text: &[u8]) -> (&[u8], &[u8])
 }
 
 // Every line as a part of the text, without its line end. The text's end ends a line too, but after a last line end
-// there is no further line.
+// there is no further line, where the library's `split` has one.
 pub fn lines_of<'a>(heap: Global, text: &'a [u8]) -> Result<Vec<&'a [u8]>, AllocError>
     ensures { IfOk result (λ v. map (λ x. x.now) v.items ≡ lines_of text.now) }
 {

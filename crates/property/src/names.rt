@@ -72,7 +72,7 @@ pub(crate) fn find(list: &[u8], letters: &[u8]) -> Option<usize>
     NamesLeft::of(list).position(|name| name == letters)
 }
 
-// Whether the name's first place in the list is this one; apart, so that a mistake in it fails at its own clause.
+// Whether the name's first place in the list is this one.
 #[tactic(auto, using(crate::proofs::Sought::own_place))]
 fn is_first(list: &[u8], name: &[u8], place: usize) -> bool
     ensures { result ≡ is_at place (place_of name.now (listed list.now)) }

@@ -44,14 +44,15 @@ fn read_checked(names: &[u8], marks: usize, text: &[u8], parts: &mut Parts) -> R
     read_text(names, text, parts)
 }
 
-// Whether a text has 1 to 255 bytes; apart, so that a mistake in it fails at its own clause.
+// Whether a text has 1 to 255 bytes.
 fn fits(text: &[u8]) -> bool
     ensures { result ≡ fits_length text.now }
 {
     (1..=255).contains(&text.len())
 }
 
-// Takes token after token, and leaves with the first fault of forming, fitting or look-up.
+// Takes token after token by `let else`, and leaves with the first fault of forming, fitting or look-up. What waits
+// stands on slots for as many tokens as the longest text can have.
 fn read_text(names: &[u8], text: &[u8], parts: &mut Parts) -> Result<(), Refusal>
     requires { (length text.now ≤ 255) × (parts.old.list ≡ []) }
     ensures { with_parts result parts.new.list ≡ fit_all (listed names.now) (false, ([], [])) (scan 0 0 text.now) }

@@ -27,7 +27,7 @@ pub enum Part {
     Binary(BinaryOperator),
 }
 
-// An opening bracket: `(`, `E[` or `A[`. A round one is no square one whose quantifier is missing.
+// An opening bracket: `(`, `E[` or `A[`. A round bracket is a bracket of its own, and no want of a quantifier.
 #[derive(Clone, Copy)]
 pub enum Opening {
     Round,

@@ -35,6 +35,7 @@ fn answer(rt: &HostRuntime, line: &[u8], parts: &mut Parts) -> io::Result<()> {
 }
 
 fn main(rt: HostRuntime) -> anyhow::Result<()> {
+    // more than all cases have; the lines borrow it
     let mut buffer = [0; 65536];
     let input = fill(&mut rt.stdin(), &mut buffer)?;
     let mut parts = Parts::new(rt.alloc()).map_err(|_| anyhow!("no memory"))?;

@@ -8,7 +8,8 @@ use basis::Piece;
 mod calls;
 
 // The pieces of the lines so far, line ends among them, and how many rows stand. There is room for the heading, 32 rows
-// and the total, so that only making a draft takes memory.
+// and the total, so that only making a draft takes memory. The pieces are a plain vector, since several are put, and
+// taken off again, at a time; the rows are told in the report and are no length of theirs.
 #[derive(Drop)]
 pub struct Draft {
     pieces: Vec<Piece<'static>>,

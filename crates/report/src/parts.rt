@@ -22,8 +22,8 @@ pub(crate) fn heading(modes: usize, marks: usize, start: usize) -> [Piece<'stati
     ]
 }
 
-// The word of an answer, whose type is another crate's and can have no method here.
-// The bytes of a piece, which a `Display` could not lend.
+// The word of an answer in a report. A piece borrows its bytes, which a `Display` could not lend; other formats have
+// words of their own, in their own definitions.
 pub(crate) fn word(answer: Verdict) -> &'static [u8]
     ensures { result.now ≡ word_of answer }
 {

@@ -1,3 +1,4 @@
+-- How many modes a set does not hold.
 use Rattle.std.specs.Prelude.{ℕ, List, Bool, cond}
 use Rattle.std.specs.List.{sum_by}
 

@@ -15,7 +15,7 @@ fn is_borne_out(told: Told, settled: Told, last: bool) -> bool {
     }
 }
 
-// What is compared is a sheet with a book on a subject, three things that the caller holds.
+// The sheet, the book and the subject are named at each call, since they differ from call to call.
 impl<C: Chart> Comparison<'_, C> {
     // The book's answers of a text's line, at every mode.
     pub(crate) fn compare_answers(

@@ -4,7 +4,7 @@ use basis::Refusal;
 use ctl::Verdict;
 use std::fmt;
 
-// What a sheet or a book tells when it is asked.
+// What a sheet or a book tells when it is asked, in one word: whatever the refusal, it is a difference.
 #[derive(Clone, Copy, PartialEq, Eq)]
 pub(crate) enum Told {
     Yes,

@@ -3,7 +3,7 @@ use crate::modes::Modes;
 use std::alloc::AllocError;
 use std::fmt;
 
-// The path that is due, with the sets of the operands.
+// The path that is due, with the sets of the operands. That none is due is an expectation too, and is printed as one.
 #[derive(Clone, Copy)]
 pub(crate) enum Due<'a> {
     Nothing,

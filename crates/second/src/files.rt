@@ -32,7 +32,7 @@ pub(crate) struct Plan {
     density: Density,
 }
 
-// At most so many of each.
+// The most modes, marks and ways out of a mode that a chart may have.
 #[derive(Clone, Copy)]
 pub(crate) struct Most {
     pub(crate) modes: u16,

@@ -104,7 +104,7 @@ impl<C: Chart> Graph<'_, C> {
             queue: VecDeque::new(self.heap),
         };
         search.reach(mode, 1)?;
-        // no mode is reached twice, so these turns empty the queue
+        // a `while let` would need a proof that the queue runs empty; these turns are enough
         for _ in 0..self.chart.modes() {
             let Some(here) = search.queue.pop_front() else {
                 break;

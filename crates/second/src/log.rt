@@ -119,7 +119,7 @@ impl Log {
         self.refused = self.refused.saturating_add(1);
     }
 
-    // Notes a disagreement at a mode; 0 where it is at none.
+    // Notes a disagreement at a mode; one at none is printed with mode 0.
     pub(crate) fn differ(
         &mut self,
         subject: Subject<'_>,

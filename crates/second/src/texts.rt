@@ -64,7 +64,7 @@ impl Draft {
         Ok(if random.once_in(2) { 'U' } else { 'R' })
     }
 
-    // Two operands with so many parts but one, and what stands between and after them.
+    // Two operands, of all parts but the operator's own, and the signs between and after them.
     #[cycle(property)]
     fn operands(
         &mut self,

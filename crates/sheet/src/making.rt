@@ -10,7 +10,7 @@ use report::Draft;
 use rounds::{Line, ModeSet};
 use std::alloc::Global;
 
-// 64 places for lines.
+// 64 places for lines. A loop, since `try_collect` was tried and left open how many it collects.
 fn blank_lines(heap: Global) -> Result<Vec<Line>, Refusal>
     ensures { IfOk result (λ v. vec_len v ≡ 64) }
 {

@@ -44,7 +44,7 @@ fn report_line(lines: &[Line], settled: usize, line: usize, mode: u16) -> Report
     }
 }
 
-// The heading, and a row for each entry.
+// The heading, and a row for each entry. The draft is written while the lines are read, so it is lent apart from them.
 fn draft_rows<C: Chart>(
     draft: &mut Draft,
     chart: &C,

@@ -15,7 +15,7 @@ use rounds::{Line, ModeSet};
 pub struct Work {
     pub(crate) lines: Vec<Line>,
     pub(crate) tally: Tally,
-    // the line of each entry
+    // the line of each entry; a plain vector, whose length is tested before a text's lines are written
     pub(crate) entries: Vec<usize>,
     // the set that a round makes
     pub(crate) next: ModeSet,

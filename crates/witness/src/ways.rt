@@ -1,6 +1,6 @@
 // The first way out of a mode that passes, for which the chart, the question and the mode are asked together.
 ghost use Rattle.std.specs.Prelude.{◌≡◌};
-ghost use Rattle.ctl.specs.Chart.{ways_of};
+ghost use Rattle.ctl.specs.Chart.{ways_of, way_at};
 ghost use Rattle.ctl.specs.Tests.{any};
 ghost use Rattle.ctl.specs.Paths.{first_way};
 ghost use Rattle.witness.specs.Criteria.{first_in};
@@ -8,12 +8,19 @@ ghost use Rattle.witness.specs.Criteria.{first_in};
 use crate::criterion::Criterion;
 use chart::Chart;
 
+// Where the way at a place leads.
+fn way_at<C: Chart>(chart: &C, mode: u16, place: usize) -> Option<u16>
+    ensures { result ≡ way_at (C.Chart.meaning chart.now) mode place }
+{
+    chart.way(mode, place)
+}
+
 // The first way out that passes, if one does.
 fn find_way<C: Chart, K: Criterion>(chart: &C, criterion: &K, mode: u16) -> Option<u16>
     ensures { result ≡ first_in (K.Criterion.test criterion.now) (ways_of (C.Chart.meaning chart.now) mode) }
 {
     (0..chart.degree(mode))
-        .filter_map(|place| chart.way(mode, place))
+        .filter_map(|place| way_at(chart, mode, place))
         .find(|x| criterion.admits(*x))
 }
 

@@ -1,4 +1,5 @@
-// The example meter: modes 0 vacant, 1 hired, 2 paying, each with a mark of its own; ways 0 to 0 and 1, 1 to 1 and 2, 2 to 0.
+// The example meter: modes 0 vacant, 1 hired, 2 paying, each with a mark of its own; ways 0 to 0 and 1, 1 to 1 and 2,
+// 2 to 0.
 use super::bench::settled;
 use basis::Refusal;
 use chart::FiledChart;
