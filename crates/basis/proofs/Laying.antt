@@ -1,11 +1,27 @@
 -- Bytes laid over a buffer, one after another.
 use Rattle.std.proofs.Common.{◌≡◌, ℕ, ◌+◌, ◌-◌, ◌<◌, ◌≤◌, List, [], ◌∷◌, ◌++◌, length, take, drop, set, sym, ap, ◌∙◌, append_assoc, length-drop, add-one, arith, length-append}
 use borrow.Rule.Slice.PartMut.{put_mid, mid_of}
-use Rattle.std.proofs.lemmas.List.{take_all, drop_all, append-nil, drop-drop, take_at, drop_at, length-take-le, set_split}
+use Rattle.std.proofs.lemmas.List.{take_all, drop_all, append-nil, drop-drop, take-set-le, take_at, drop_at, drop-set, length-take-le, set_split}
 use Rattle.basis.specs.Lines.{laid}
 
 pub put_mid-laid : (a k : ℕ) (xs ys : List ℕ) → k ≡ length ys → put_mid a k xs ys ≡ laid a ys xs
 put_mid-laid a k xs ys e = ap (λ t. take a xs ++ (ys ++ t)) (drop-drop k a xs ∙ ap (λ m. drop (a + m) xs) e)
+
+-- the last byte may be written first
+pub laid-last : (a : ℕ) (xs : List ℕ) (y : ℕ) (buf : List ℕ) (i : ℕ) → i ≡ a + length xs → i < length buf → laid a xs (set buf i y) ≡ laid a (xs ++ (y ∷ [])) buf
+laid-last a xs y buf i e h =
+    let front : take a (set buf i y) ≡ take a buf = take-set-le a buf i y (omega arith) in
+    let back : drop i (set buf i y) ≡ y ∷ drop (i + 1) buf = drop-set buf i y h in
+    let end : a + length (xs ++ (y ∷ [])) ≡ i + 1 = omega (arith, length-append xs (y ∷ [])) in
+    let step : drop (a + length xs) (set buf i y) ≡ y ∷ drop (a + length (xs ++ (y ∷ []))) buf =
+    ap (λ m. drop m (set buf i y)) (sym e) ∙ (back ∙ ap (λ m. y ∷ drop m buf) (sym end))
+    in
+    ap (λ t. t ++ (xs ++ drop (a + length xs) (set buf i y))) front
+    ∙ (ap (λ t. take a buf ++ (xs ++ t)) step ∙ ap (λ t. take a buf ++ t) (sym (append_assoc xs (y ∷ []) (drop (a + length (xs ++ (y ∷ []))) buf))))
+
+-- laid from the beginning on
+pub laid-front : (xs buf : List ℕ) → laid 0 xs buf ≡ xs ++ drop (length xs) buf
+laid-front xs buf = let e : 0 + length xs ≡ length xs = omega arith in ap (λ m. xs ++ drop m buf) e
 
 -- laid over the part from a place on
 pub laid-part :

@@ -4,7 +4,6 @@ ghost use Rattle.std.specs.Prelude.{◌≡◌, ◌+◌, ◌<◌, ◌≤◌, ◌+
 ghost use Rattle.basis.specs.Lines.{line_of, overlaid, representable, spelling, written};
 
 use super::refusal::Refusal;
-use itoa::Buffer;
 
 #[derive(Clone, Copy)]
 pub enum Piece<'a> {
@@ -49,7 +48,7 @@ fn piece_length(piece: Piece<'_>) -> usize
 {
     match piece {
         Piece::Text(text) => text.len(),
-        Piece::Number(n) => Buffer::new().format(n).len(),
+        Piece::Number(n) => figure_count(n),
     }
 }
 
@@ -61,7 +60,7 @@ fn put_piece(out: &mut [u8], piece: Piece<'_>) -> usize
 {
     match piece {
         Piece::Text(text) => put_text(out, text),
-        Piece::Number(n) => put_text(out, Buffer::new().format(n).as_bytes()),
+        Piece::Number(n) => put_number(out, n),
     }
 }
 
@@ -72,4 +71,44 @@ fn put_text(out: &mut [u8], text: &[u8]) -> usize
 {
     out[..text.len()].copy_from_slice(text);
     text.len()
+}
+
+// By hand, and not by the library's `itoa`, which fills a buffer of its own that is copied then: of numbers with few
+// figures, as nearly all are here, that took two to seven times the time.
+fn figure_count(n: usize) -> usize
+    ensures { result ≡ length (decimal n) }
+{
+    let mut count = 1;
+    let mut rest = n;
+    while rest >= 10 {
+        rest /= 10;
+        count += 1;
+    }
+    count
+}
+
+// From the units leftward.
+fn put_number(out: &mut [u8], n: usize) -> usize
+    requires { length (decimal n) ≤ length out.old }
+    ensures count { result ≡ length (decimal n) }
+    ensures buffer { out.new ≡ decimal n ++ drop (length (decimal n)) out.old }
+{
+    let count = figure_count(n);
+    let mut place = count - 1;
+    let mut rest = n;
+    while rest >= 10 {
+        out[place] = figure(rest % 10);
+        rest /= 10;
+        place -= 1;
+    }
+    out[place] = figure(rest);
+    count
+}
+
+// The byte of a single figure.
+fn figure(digit: usize) -> u8
+    requires { digit < 10 }
+    ensures { result ≡ 48 + digit }
+{
+    b'0' + digit as u8
 }

@@ -19,7 +19,8 @@ impl<T, const N: usize> Model for Reserved<T, N> {
 
     ghost view = { λ r. r.items.items };
 
-    ghost invariant = { λ r. (vec_len r.items ≤ N) × (N ≤ vec_capacity r.items) };
+    // the room stays what it was, so nothing was taken since
+    ghost invariant = { λ r. (vec_len r.items ≤ N) × (vec_capacity r.items ≡ N) };
 }
 
 impl<T, const N: usize> Reserved<T, N> {
@@ -88,7 +89,9 @@ impl<T: Copy, const N: usize> Reserved<T, N> {
         ensures { self.new ≡ replicate (min count N) value }
     {
         self.clear();
-        let _ = self.items.resize(count.min(N), value);
+        for _ in 0..count.min(N) {
+            self.items.push_reserved(value);
+        }
     }
 
     // Puts a value in place of the element at a place, if there is one.

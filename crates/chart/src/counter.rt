@@ -59,11 +59,12 @@ impl Chart for CounterChart {
     }
 
     fn way(&self, mode: u16, place: usize) -> Option<u16> {
-        // the last way leads back, one before it leads on
-        match self.degree(mode).saturating_sub(place) {
-            0 => None,
-            1 => Some(0),
-            _ => Some(mode + 1),
+        if place >= self.degree(mode) {
+            None
+        } else if place == 0 && mode < self.length - 1 {
+            Some(mode + 1)
+        } else {
+            Some(0)
         }
     }
 

@@ -144,10 +144,11 @@ fn exchange<'a>(
 pub(crate) fn serve(rt: &HostRuntime, mut desk: Desk<FiledChart>) -> io::Result<()> {
     let mut out = [0; OUT_BYTES];
     let mut lines = rt.stdin().lock().split(rt.alloc(), b'\n');
-    let Some(names) = lines.next() else {
-        return Ok(());
+    // an end of the input in place of the names is an empty list, and lines may follow it at a terminal
+    let names = match lines.next() {
+        Some(names) => names?,
+        None => Vec::new(rt.alloc()),
     };
-    let names = names?;
     for line in lines {
         desk = exchange(rt, desk, &names, &line?, &mut out)?;
     }

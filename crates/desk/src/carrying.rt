@@ -144,13 +144,20 @@ fn on_desk<'a, C: Chart>(desk: Desk<C>, task: Task<'a>) -> Step<'a, C>
     }
 }
 
+// A sheet without lines on a desk.
+fn set_up<C: Chart>(heap: Global, chart: C) -> Result<Desk<C>, C>
+    ensures { MatchResult result (λ d. (chart_of d ≡ chart) × (standing_of d ≡ clean_desk)) (λ c. c ≡ chart) }
+{
+    Sheet::new(heap, chart).map(Desk::Sheet)
+}
+
 impl<C: Chart> Desk<C> {
     // A clean desk: a sheet without lines; where there is no memory for it the chart comes back.
     pub fn new(heap: Global, chart: C) -> Result<Desk<C>, C>
         ensures made { MatchResult result (λ d. (chart_of d ≡ chart) × (standing_of d ≡ clean_desk)) (λ c. c ≡ chart) }
         ensures leads { IfOk result (λ d. LeadsTo (C.Chart.meaning (chart_of d)) [] [] (standing_of d)) }
     {
-        Sheet::new(heap, chart).map(Desk::Sheet)
+        set_up(heap, chart)
     }
 
     // Carries out one call. Where the calls before led from a clean desk to this one with a log, the log with this event

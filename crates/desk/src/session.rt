@@ -21,6 +21,16 @@ fn prepare<'a>(heap: Global, calls: &[Call<'a>]) -> Result<Vec<Task<'a>>, AllocE
     Ok(tasks)
 }
 
+// One event more in the log, whose room is reserved and stays as it is.
+fn note<'a>(log: &mut Vec<Event<'a>>, event: Event<'a>)
+    requires { vec_len log.old < vec_capacity log.old }
+    ensures items { log.new.items ≡ log.old.items ++ event.entry ∷ [] }
+    ensures len { vec_len log.new ≡ vec_len log.old + 1 }
+    ensures capacity { vec_capacity log.new ≡ vec_capacity log.old }
+{
+    log.push_reserved(event);
+}
+
 // The calls one after another, each with its event in the log.
 fn run<'a, C: Chart>(
     mut desk: Desk<C>,
@@ -36,7 +46,7 @@ fn run<'a, C: Chart>(
     for task in tasks {
         let Step { desk: next, event } = desk.carry_out(task);
         desk = next;
-        log.push_reserved(event);
+        note(&mut log, event);
     }
     Session { log, desk }
 }

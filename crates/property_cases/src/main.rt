@@ -6,7 +6,7 @@ mod letters;
 
 use crate::letters::letter;
 use anyhow::anyhow;
-use intake::{fill, lines_of};
+use intake::fill;
 use property::{Part, Parts, read};
 use std::io;
 
@@ -35,11 +35,20 @@ fn answer(rt: &HostRuntime, line: &[u8], parts: &mut Parts) -> io::Result<()> {
 }
 
 fn main(rt: HostRuntime) -> anyhow::Result<()> {
-    // more than all cases have; the lines borrow it
+    // more than all cases have, so that no case takes memory; the lines borrow it
     let mut buffer = [0; 65536];
-    let input = fill(&mut rt.stdin(), &mut buffer)?;
+    let typed = fill(&mut rt.stdin(), &mut buffer)?.len();
     let mut parts = Parts::new(rt.alloc()).map_err(|_| anyhow!("no memory"))?;
-    for line in lines_of(rt.alloc(), input)? {
+    if typed == 0 {
+        return Ok(());
+    }
+    // a last line without its end takes the rest of the buffer
+    let end = if buffer[..typed].ends_with(b"\n") {
+        typed - 1
+    } else {
+        buffer.len()
+    };
+    for line in buffer[..end].split(|byte| *byte == b'\n') {
         answer(&rt, line, &mut parts)?;
     }
     Ok(())

@@ -93,5 +93,3 @@ pub waiting-buffer : (μ : Meaning) (w : Work) (i m : ℕ) (buffer : List ℕ) (
 waiting-buffer μ w i m buffer u e h =
     let within = placed-within w.tally.lines (size μ) i m u e in
     refused-buffer (showing μ (state_of w) i m (length buffer)) NotSettled buffer (show-not-settled μ (state_of w) i m (length buffer) (rw (lines-used w) within.0) within.1 h)
-
-pub ruleset waiting = (waiting-answer, waiting-buffer)

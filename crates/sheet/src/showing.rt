@@ -1,17 +1,23 @@
 // Showing the path that bears out an answer.
 ghost use Rattle.basis.specs.Lines.{overlaid};
 ghost use Rattle.sheet.specs.State.{modes_of, showing, state_of, told};
-ghost use Rattle.std.specs.Prelude.{◌≡◌, length};
+ghost use Rattle.std.specs.Prelude.{◌≡◌, length, nat_le};
 
 use crate::work::Work;
 use basis::Refusal;
 use chart::Chart;
 use witness::Shown;
 
+// Whether a line still waits for rounds: the first so many lines are settled.
+fn is_waiting(line: usize, settled: usize) -> bool
+    ensures { result ≡ nat_le settled line }
+{
+    line >= settled
+}
+
 impl Work {
     // Lays the path for a settled line's answer at a mode into a buffer from its beginning and leaves the rest; answers
     // how many modes it has, and the place to which the last one returns.
-    #[tactic(auto, using(crate::proofs::Shown::waiting))]
     pub(crate) fn show<C: Chart>(
         &mut self,
         chart: &C,
@@ -24,7 +30,7 @@ impl Work {
         ensures after { state_of self.new ≡ state_of self.old }
     {
         self.check(chart, line, mode)?;
-        if line >= self.tally.settled {
+        if is_waiting(line, self.tally.settled) {
             return Err(Refusal::NotSettled);
         }
         witness::show(

@@ -1,5 +1,6 @@
 // The first way out of a mode that passes, for which the chart, the question and the mode are asked together.
 ghost use Rattle.std.specs.Prelude.{◌≡◌};
+ghost use Rattle.std.specs.Option.{unwrap_or};
 ghost use Rattle.ctl.specs.Chart.{ways_of, way_at};
 ghost use Rattle.ctl.specs.Tests.{any};
 ghost use Rattle.ctl.specs.Paths.{first_way};
@@ -8,11 +9,11 @@ ghost use Rattle.witness.specs.Criteria.{first_in};
 use crate::criterion::Criterion;
 use chart::Chart;
 
-// Where the way at a place leads.
-fn way_at<C: Chart>(chart: &C, mode: u16, place: usize) -> Option<u16>
-    ensures { result ≡ way_at (C.Chart.meaning chart.now) mode place }
+// Where the way at a place leads; the mode itself where there is none.
+fn way_at<C: Chart>(chart: &C, mode: u16, place: usize) -> u16
+    ensures { result ≡ unwrap_or (way_at (C.Chart.meaning chart.now) mode place) mode }
 {
-    chart.way(mode, place)
+    chart.way(mode, place).unwrap_or(mode)
 }
 
 // The first way out that passes, if one does.
@@ -20,7 +21,7 @@ fn find_way<C: Chart, K: Criterion>(chart: &C, criterion: &K, mode: u16) -> Opti
     ensures { result ≡ first_in (K.Criterion.test criterion.now) (ways_of (C.Chart.meaning chart.now) mode) }
 {
     (0..chart.degree(mode))
-        .filter_map(|place| way_at(chart, mode, place))
+        .map(|place| way_at(chart, mode, place))
         .find(|x| criterion.admits(*x))
 }
 

@@ -58,12 +58,14 @@ impl Draft {
     }
 }
 
-// The pieces have their room, so that no memory is taken here and the call succeeds.
+// The pieces have their room, and it stays as it is: the library's call for it promises only that it does not shrink.
 fn append(pieces: &mut Vec<Piece<'static>>, more: &[Piece<'static>])
     requires { vec_len pieces.old + length more.now ≤ vec_capacity pieces.old }
     ensures items { pieces.new.items ≡ pieces.old.items ++ more.now }
     ensures len { vec_len pieces.new ≡ vec_len pieces.old + length more.now }
-    ensures capacity { vec_capacity pieces.old ≤ vec_capacity pieces.new }
+    ensures capacity { vec_capacity pieces.new ≡ vec_capacity pieces.old }
 {
-    let _ = pieces.extend_from_slice(more);
+    for piece in more {
+        pieces.push_reserved(*piece);
+    }
 }

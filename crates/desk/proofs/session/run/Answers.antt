@@ -35,12 +35,12 @@ loop-task-preserved g c =
     let calls : map task_of (into_iter_items l.task-iterator) ≡ t ∷ ts = ap (map task_of) s.0 in
     let log = ap (λ (cs : List told.Call). xs ++ (performed_from μ d cs).log) (sym calls) ∙ l.invariant.1.1.0 in
     let last = ap (λ (cs : List told.Call). (performed_from μ d cs).last) (sym calls) ∙ l.invariant.1.1.1.0 in
-    let pushed : map event_of (vec_items c.push_reserved.new.self) ≡ xs ++ e ∷ [] =
-    ap (map event_of) c.push_reserved.ensures.items ∙ map-append event_of (vec_items l.log) (c.carry_out-next.result.event ∷ []) in
+    let pushed : map event_of (vec_items c.note.new.log) ≡ xs ++ e ∷ [] =
+    ap (map event_of) c.note.ensures.items ∙ map-append event_of (vec_items l.log) (c.carry_out-next.result.event ∷ []) in
     let room = l.invariant.1.1.1.1.1 in
     let more = s.1 in
-    let long = c.push_reserved.ensures.len in
-    let cap = c.push_reserved.ensures.capacity in (
+    let long = c.note.ensures.len in
+    let cap = c.note.ensures.capacity in (
       tt,
       (
         tt,

@@ -1,4 +1,5 @@
 use Rattle.std.proofs.Common.{◌≡◌, List, length, Err, Result, sym, refl, ap, ◌∙◌, rules}
+use Rattle.std.proofs.lemmas.Bool.{leb-true, leb-false}
 use Rattle.basis.specs.Lines.{overlaid}
 use Rattle.basis.specs.declared.refusal.Refusal.{Refusal}
 use Rattle.ctl.specs.Chart.{size}
@@ -9,7 +10,7 @@ use Rattle.witness.specs.Showing as witness
 use Rattle.sheet.specs.State.{showing, state_of, told, modes_of}
 use Rattle.sheet.proofs.Fronts.{lines-used, lent-used}
 use Rattle.sheet.proofs.Asked.{placed-within}
-use Rattle.sheet.proofs.Shown.{show-refused, show-settled, refused-answer, refused-buffer, same-shown, borne-answer, borne-buffer}
+use Rattle.sheet.proofs.Shown.{show-refused, show-settled, refused-answer, refused-buffer, same-shown, borne-answer, borne-buffer, waiting-answer, waiting-buffer}
 use Rattle.sheet.proofs.work.Work.show.Goals as goal
 
 pub returns-in_err-check : goal.returns-in_err-check
@@ -23,6 +24,18 @@ returns-in_err-check g c =
     let answer : c.from_residual.result ≡ Err e = search rules in
     record { answer = answer ∙ refused-answer x e r; buffer = refused-buffer x e buffer r; after = refl }
 
+pub returns-then-is_waiting : goal.returns-then-is_waiting
+returns-then-is_waiting g c =
+    let w = c.args.self.now in
+    let μ = g.C.Chart.meaning c.args.chart.now in
+    let buffer = c.args.path.now in
+    let h = leb-true w.tally.settled c.args.line (sym c.is_waiting.ensures ∙ c.if-is_waiting.true) in
+    record {
+      answer = waiting-answer μ w c.args.line c.args.mode (length buffer) _ c.in_ok-check.ensures h;
+      buffer = waiting-buffer μ w c.args.line c.args.mode buffer _ c.in_ok-check.ensures h;
+      after = refl;
+    }
+
 pub returns : goal.returns
 returns g c =
     let μ = g.C.Chart.meaning c.args.chart.now in
@@ -33,7 +46,7 @@ returns g c =
     let buffer = c.args.path.now in
     let lent = lent-used w c.deref.result.now c.deref.ensures.value in
     let within = placed-within w.tally.lines (size μ) i m _ c.in_ok-check.ensures in
-    let e = show-settled μ (state_of w) i m (length buffer) (rw (lines-used w) within.0) within.1 c.if-line-self.false in
+    let e = show-settled μ (state_of w) i m (length buffer) (rw (lines-used w) within.0) within.1 (leb-false w.tally.settled i (sym c.is_waiting.ensures ∙ c.if-is_waiting.false)) in
     record {
       answer =
           c.show.ensures.answer
