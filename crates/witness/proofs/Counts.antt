@@ -1,4 +1,4 @@
--- The numbers after one round more, and how large they grow.
+-- The numbers after one round more, how many they are, and how large they grow.
 use Rattle.std.proofs.Common.{◌≡◌, ℕ, zero, suc, ◌+◌, ◌<◌, ◌≤◌, Bool, true, false, cond, ◌&&◌, ◌||◌, eqb, ltb, List, map, length, get_or, replicate, sym, refl, ap, ◌∙◌, ⊎_elim, add-one, arith}
 use Rattle.std.proofs.lemmas.List.FromFn.{get_or-map-range_with_len, length-map-range_with_len}
 use Rattle.std.proofs.lemmas.List.{get_or_past, get_or-replicate, length-replicate}
@@ -21,6 +21,11 @@ module _ (μ : Meaning) (P Q : ℕ → Bool) where
   numbers_more k before e =
       ap (λ (b : List ℕ). map (numbered μ P Q b k) (range_with_len 0 (size μ))) e ∙ sym (step k) ∙ ap (numbers_after μ P Q) (sym (add-one k))
 
+  pub length-numbers : (k : ℕ) → length (numbers_after μ P Q k) ≡ size μ
+  length-numbers zero = ap length numbers-none ∙ length-replicate (size μ) 0
+  length-numbers (suc k) =
+      ap length (step k) ∙ length-map-range_with_len (numbered μ P Q (numbers_after μ P Q k) k) 0 (size μ)
+
   -- a number is at most the number of rounds
   fresh-below : (b : Bool) (k : ℕ) → cond b (k + 1) 0 ≤ k + 1
   fresh-below true k = omega arith
@@ -41,8 +46,7 @@ module _ (μ : Meaning) (P Q : ℕ → Bool) where
           let e = ap (λ (ns : List ℕ). get_or ns m 0) numbers-none ∙ get_or-replicate (size μ) m 0 0 h in omega arith
 
       outside : size μ ≤ m → get_or (numbers_after μ P Q 0) m 0 ≤ 0
-      outside h =
-          past-below (numbers_after μ P Q 0) m 0 (let e = ap length numbers-none ∙ length-replicate (size μ) 0 in omega arith)
+      outside h = past-below (numbers_after μ P Q 0) m 0 (let e = length-numbers 0 in omega arith)
   numbers-below (suc k) m = rise (numbers-below k m)
     where
       inside : get_or (numbers_after μ P Q k) m 0 ≤ k → m < size μ → get_or (numbers_after μ P Q (suc k)) m 0 ≤ suc k
@@ -52,9 +56,7 @@ module _ (μ : Meaning) (P Q : ℕ → Bool) where
           omega arith
 
       outside : size μ ≤ m → get_or (numbers_after μ P Q (suc k)) m 0 ≤ suc k
-      outside h =
-          past-below (numbers_after μ P Q (suc k)) m (suc k)
-          (let e = ap length (step k) ∙ length-map-range_with_len (numbered μ P Q (numbers_after μ P Q k) k) 0 (size μ) in omega arith)
+      outside h = past-below (numbers_after μ P Q (suc k)) m (suc k) (let e = length-numbers (suc k) in omega arith)
 
       rise : get_or (numbers_after μ P Q k) m 0 ≤ k → get_or (numbers_after μ P Q (suc k)) m 0 ≤ suc k
       rise i = ⊎_elim (inside i) outside (cases_lt m (size μ))

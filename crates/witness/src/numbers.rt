@@ -37,8 +37,8 @@ impl<'a, C: Chart> Operands<'a, C> {
     // One round over all modes, each of which has an entry in both tables.
     fn number_round(&self, before: &[u16], round: u16, next: &mut Reserved<u16, 256>)
         requires few { round < 256 }
-        requires before { length before.now ≡ size (C.Chart.meaning self.now.chart.now) }
-        requires next { length next.old ≡ size (C.Chart.meaning self.now.chart.now) }
+        requires table { length before.now ≡ size (C.Chart.meaning self.now.chart.now) }
+        requires fresh { length next.old ≡ size (C.Chart.meaning self.now.chart.now) }
         ensures { next.new ≡ map (numbered_at (C.Chart.meaning self.now.chart.now) (read_by self.now.left) (read_by self.now.right) before.now round) (range_with_len 0 (size (C.Chart.meaning self.now.chart.now))) }
     {
         for mode in 0..self.chart.modes() {
@@ -53,6 +53,7 @@ impl<'a, C: Chart> Operands<'a, C> {
         let Tables { numbers, next, .. } = tables;
         let modes = self.chart.modes();
         numbers.fill(modes as usize, 0);
+        // every round writes over these, so only how many there are matters
         next.fill(modes as usize, 0);
         for round in 0..modes {
             self.number_round(numbers.as_slice(), round, next);

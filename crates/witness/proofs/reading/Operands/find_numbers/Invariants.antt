@@ -7,5 +7,4 @@ use Rattle.witness.proofs.reading.Operands.find_numbers.Given as goal
 abbrev pub invariant-loop-round : goal.invariant-loop-round
 invariant-loop-round g l =
     (l.numbers ≡ numbers_after (g.C.Chart.meaning l.self.chart.now) (read_by l.self.left) (read_by l.self.right) l.round)
-    × ((length l.numbers ≡ size (g.C.Chart.meaning l.self.chart.now))
-    × (length l.next ≡ size (g.C.Chart.meaning l.self.chart.now)))
+    × (length l.next ≡ size (g.C.Chart.meaning l.self.chart.now))
