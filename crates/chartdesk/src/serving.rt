@@ -1,7 +1,7 @@
 // One line after another: each is carried out and answered before the next is read. `specs/Turns.antt` says what a line
 // does.
 ghost use Rattle.chart.specs.Filed.{chart_of as meaning_of};
-ghost use Rattle.chartdesk.specs.Commands.{call as said, command_of, report as report_said, said_by};
+ghost use Rattle.chartdesk.specs.Commands.{call as said, command_of, report as report_said, said_by, text_of};
 ghost use Rattle.chartdesk.specs.Layouts.{is_below};
 ghost use Rattle.chartdesk.specs.Turns.{Done, DoneOrMemory, LeadsOn, outcome_for};
 ghost use Rattle.desk.specs.Told.{call_of, chart_of, standing_of};
@@ -114,6 +114,13 @@ fn answer<'a>(
     }
 }
 
+// A line without the line end that it may have.
+fn text_of(line: &[u8]) -> &[u8]
+    ensures { result.now ≡ text_of line.now }
+{
+    line.strip_suffix(b"\n").unwrap_or(line)
+}
+
 // The line, and its answer behind it or in lines of its own below it.
 fn print(rt: &HostRuntime, line: &[u8], layout: Layout, answer: &[u8]) -> io::Result<()> {
     let mut stdout = rt.stdout();
@@ -125,7 +132,9 @@ fn print(rt: &HostRuntime, line: &[u8], layout: Layout, answer: &[u8]) -> io::Re
     stdout.write_all(answer)
 }
 
-// Carries out a line and prints its answer; the desk after it.
+// Carries out a line and prints its answer; the desk after it. It becomes part of the loop of `serve`, since the desk goes
+// through by value, and a call would copy it.
+#[inline(always)]
 fn exchange<'a>(
     rt: &HostRuntime,
     desk: Desk<FiledChart>,
@@ -140,17 +149,20 @@ fn exchange<'a>(
     Ok(desk)
 }
 
-// Reads lines until the input ends: the names, and then one call a line.
+// Reads lines until the input ends: the names, and then one call a line, each into the vector of the line before.
 pub(crate) fn serve(rt: &HostRuntime, mut desk: Desk<FiledChart>) -> io::Result<()> {
+    let mut input = rt.stdin().lock();
+    let mut names = Vec::new(rt.alloc());
+    let mut line = Vec::new(rt.alloc());
     let mut out = [0; OUT_BYTES];
-    let mut lines = rt.stdin().lock().split(rt.alloc(), b'\n');
-    // an end of the input in place of the names is an empty list, and lines may follow it at a terminal
-    let names = match lines.next() {
-        Some(names) => names?,
-        None => Vec::new(rt.alloc()),
-    };
-    for line in lines {
-        desk = exchange(rt, desk, &names, &line?, &mut out)?;
+    input.read_until(b'\n', &mut names)?;
+    // counted, so that it is seen to end: no input has so many lines
+    for _ in 0..u64::MAX {
+        line.clear();
+        if input.read_until(b'\n', &mut line)? == 0 {
+            break;
+        }
+        desk = exchange(rt, desk, text_of(&names), text_of(&line), &mut out)?;
     }
     Ok(())
 }
