@@ -99,8 +99,6 @@ fn put_barred(call: Call<'_>, out: &mut [u8]) -> Option<usize>
     }
 }
 
-// A call of its own: as part of the loop of `serve` it would load what the loop keeps again after each piece.
-#[inline(never)]
 fn put_shown(heap: Global, answer: &Result<Path, Refusal>, out: &mut [u8]) -> Option<usize>
     ensures { LaidOrMemory (shown_line (path_in answer.now)) out.old out.new result }
 {

@@ -19,7 +19,11 @@ fn push_both<'a>(
 ) -> Result<(), AllocError>
     ensures { OnOk result (flat_map spelling pieces.new.items ≡ flat_map spelling pieces.old.items ++ (word.now ++ decimal number)) }
 {
-    pieces.extend_from_slice(&[Piece::Text(word), Piece::Number(number)])
+    // not as a row of the two, which would be written down first and then copied
+    pieces.reserve(2)?;
+    pieces.push_reserved(Piece::Text(word));
+    pieces.push_reserved(Piece::Number(number));
+    Ok(())
 }
 
 // Modes behind others.

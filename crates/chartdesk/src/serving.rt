@@ -149,7 +149,7 @@ fn exchange<'a>(
     Ok(desk)
 }
 
-// Reads lines until the input ends: the names, and then one call a line, each into the vector of the line before.
+// Reads lines until the input ends: the names, and then one call a line, all calls into one vector.
 pub(crate) fn serve(rt: &HostRuntime, mut desk: Desk<FiledChart>) -> io::Result<()> {
     let mut input = rt.stdin().lock();
     let mut names = Vec::new(rt.alloc());
