@@ -36,7 +36,7 @@ module _ (μ : Meaning) (P Q : ℕ → Bool) where
   unfolding numbers_after
   num-zero m = get_or-zeros (size μ) m
 
-  length-numbers : (k : ℕ) → length (numbers_after μ P Q k) ≡ size μ
+  pub length-numbers : (k : ℕ) → length (numbers_after μ P Q k) ≡ size μ
   unfolding numbers_after
   length-numbers zero = length-replicate (size μ) 0
   length-numbers (suc k) = length-map-range_with_len (numbered μ P Q (numbers_after μ P Q k) k) 0 (size μ)

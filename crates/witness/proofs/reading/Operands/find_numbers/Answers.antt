@@ -2,7 +2,8 @@ use Rattle.std.proofs.Common.{◌≡◌, min, replicate, length, sym, ap, ◌∙
 use Rattle.std.proofs.lemmas.List.{length-replicate}
 use Rattle.ctl.specs.Chart.{size}
 use Rattle.witness.specs.Criteria.{read_by}
-use Rattle.witness.proofs.Counts.{numbers-none, numbers_more, length-numbers}
+use Rattle.ctl.proofs.PathsReach.{length-numbers}
+use Rattle.witness.proofs.Counts.{numbers-none, numbers_more}
 use Rattle.witness.proofs.reading.Operands.find_numbers.Goals as goal
 
 pub loop-round-init : goal.loop-round-init
